@@ -1,0 +1,2 @@
+pub mod Roundings
+pub mod Answered

@@ -1,0 +1,4 @@
+pub mod Amounts
+pub mod Laws
+pub mod Refusals
+pub mod Tables

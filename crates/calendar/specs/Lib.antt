@@ -1,0 +1,4 @@
+pub mod Days
+pub mod Hours
+pub mod Dates
+pub mod Laws

@@ -1,0 +1,4 @@
+pub mod Passes
+pub mod Rows
+pub mod Numbering
+pub mod Issuing

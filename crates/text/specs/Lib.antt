@@ -1,0 +1,4 @@
+pub mod Appended
+pub mod Numbers
+pub mod Pieces
+pub mod Taken

@@ -1,20 +1,17 @@
 -- Worked examples of billing, each a line to check by hand.
-use Prim.Native.Nat.{ℕ, _+_, _-_, _*_, _/_, min}
+use Prim.Native.Nat.{ℕ, _+_, _*_, min}
 use mathlib.Core.List.{List, [], _∷_}
 use mathlib.Core.Path.{_≡_}
 use lib.IntN.{pos, negsuc, _-ℤ_}
 use Rattle.std.specs.declared.option.Option.{Option}
 use Rattle.std.specs.declared.option.Option.the-variants.{Some, None}
 use Rattle.amounts.specs.Amounts.{value, charged, mean-of}
+use Rattle.meters.specs.Index.{index-kwh}
 
 -- the price that is fixed of a market price and the mean price of lots: the smaller
 abbrev pub smaller : ℕ → Option ℕ → Option ℕ
 smaller market (Some mean) = Some (min market mean)
 smaller market None = None
-
--- of a total over some days, what the first k days have: the whole part of their share
-abbrev pub share : (total days k : ℕ) → ℕ
-share total days k = total * k / days
 
 abbrev pub two-lots : List (ℕ × ℕ)
 two-lots = (100, 1_400_000) ∷ (50, 1_370_000) ∷ []
@@ -38,5 +35,5 @@ pub record Examples : Type 0 where
   pub corrected : value (1_100 + 1_000) 440_000 1_395_000 ≡ 12_890
   pub correction : pos (value 2_100 440_000 1_395_000) -ℤ pos (value 2_000 440_000 1_395_000) ≡ pos 614
   -- 100 kWh between two indexes over 31 days: the first ten days, and the rest
-  pub first-days : share 100 31 10 ≡ 32
-  pub other-days : 100 - share 100 31 10 ≡ 68
+  pub first-days : index-kwh 1 31 100 1 10 ≡ Some 32
+  pub other-days : index-kwh 1 31 100 11 31 ≡ Some 68

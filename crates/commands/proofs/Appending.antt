@@ -34,11 +34,6 @@ pub led-on : (was mid is : List ℕ) (fs gs : List (List ℕ)) → mid ≡ was +
 led-on was mid is fs gs e h =
     h ∙ ap (λ m. m ++ led 44 gs) e ∙ append-assoc was (led 44 fs) (led 44 gs) ∙ ap (λ t. was ++ t) (sym (joined-append (λ p. 44 ∷ p) fs gs))
 
--- the fields behind the first
-abbrev pub tail-of : List (List ℕ) → List (List ℕ)
-tail-of [] = []
-tail-of (p ∷ ps) = ps
-
 -- more fields behind the first ones of a row
 pub commas-on : (was mid is p : List ℕ) (fs gs : List (List ℕ)) → mid ≡ was ++ with-commas (p ∷ fs) → is ≡ mid ++ led 44 gs → is ≡ was ++ with-commas (p ∷ (fs ++ gs))
 commas-on was mid is p fs gs e h =

@@ -4,15 +4,18 @@ mod answer;
 mod command;
 mod field;
 mod reading;
-mod records;
 mod row;
+mod writing;
 
 pub use answer::Answer;
 pub use command::Command;
 pub use command::IndexReading;
 pub use reading::is_passed_over;
 pub use reading::read_command;
-pub use records::push_answer;
-pub use records::push_end;
-pub use records::push_interval;
-pub use records::push_line;
+pub use writing::push_answer;
+pub use writing::push_end;
+pub use writing::push_interval;
+pub use writing::push_line;
+
+#[cfg(test)]
+mod tests;

@@ -16,7 +16,9 @@ use text::is_word;
 
 // The most records of each kind that storage is used for.
 const MOST_INTERVALS: u32 = 16_384;
+
 const MOST_LINES: u32 = 65_536;
+
 const MOST_LOTS: u32 = 4_096;
 
 // The next field as a number, or `most` where it is above.

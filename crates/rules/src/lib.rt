@@ -1,4 +1,5 @@
 // What the journal holds, and what its calls mean.
+pub mod laws;
 pub mod types;
 
 pub use types::Figures;

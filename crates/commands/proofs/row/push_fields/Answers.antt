@@ -1,7 +1,6 @@
 use mathlib.Core.Path.{ap, _∙_}
 use mathlib.Core.List.{_++_, map}
 use native.Mathlib.Omega.{arith}
-use borrow.Author.Needs.{needs}
 use Rattle.std.proofs.shelf.Lists.{take-all}
 use Rattle.text.specs.Pieces.{led}
 use Rattle.commands.specs.Rows.{field-text}

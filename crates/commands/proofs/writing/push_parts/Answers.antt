@@ -7,7 +7,7 @@ use Rattle.parts.specs.Cutting.{blank}
 use Rattle.parts.proofs.Counting.{take-in-use}
 use Rattle.commands.specs.Answers.{part-fields}
 use Rattle.commands.proofs.Appending.{part-more}
-use Rattle.commands.proofs.records.push_parts.Needs as need
+use Rattle.commands.proofs.writing.push_parts.Needs as need
 
 pub loop-i-again : need.loop-i-again
 loop-i-again c =

@@ -5,7 +5,7 @@ use Rattle.std.specs.Of.Vec.{vec-items}
 use Rattle.std.specs.shelf.Lists.{joined}
 use Rattle.text.specs.Pieces.{led}
 use Rattle.commands.specs.Answers.{part-fields}
-use Rattle.commands.proofs.records.push_parts.Given as given
+use Rattle.commands.proofs.writing.push_parts.Given as given
 
 abbrev pub Inv-loop-i : given.InvT-loop-i
 Inv-loop-i l = vec-items (l .out) ≡ vec-items (l .entry .out) ++ led 44 (joined part-fields (take (l .i) (l .parts .list)))

@@ -43,10 +43,19 @@ fn flush(rt: &LibcRuntime, out: &mut Vec<u8>) -> io::Result<()> {
 }
 
 // Keeps one set of books until the log ends or asks for another.
-fn keep_books(rt: &LibcRuntime, log: &mut Log<'_>, begin: Beginning) -> io::Result<Option<Beginning>> {
+fn keep_books(
+    rt: &LibcRuntime,
+    log: &mut Log<'_>,
+    begin: Beginning,
+) -> io::Result<Option<Beginning>> {
     let mut intervals = vec![in rt.alloc(); NO_INTERVAL; begin.intervals]?;
     let mut lines = vec![in rt.alloc(); NO_LINE; begin.lines]?;
-    let mut journal = Journal::setup(intervals.as_mut_slice(), lines.as_mut_slice(), begin.year, begin.line);
+    let mut journal = Journal::setup(
+        intervals.as_mut_slice(),
+        lines.as_mut_slice(),
+        begin.year,
+        begin.line,
+    );
     let mut roll = Roll::new();
     let mut board = Board::new();
     let mut out = Vec::new(rt.alloc());
@@ -58,13 +67,15 @@ fn keep_books(rt: &LibcRuntime, log: &mut Log<'_>, begin: Beginning) -> io::Resu
         match entry {
             Entry::PassedOver => {}
             Entry::Unreadable => push_answer(&mut out, log.line, Answer::Bad)?,
-            Entry::Read(Command::Setup {
-                year,
-                line,
-                intervals,
-                lines,
-                ..
-            }) => {
+            Entry::Read(
+                Command::Setup {
+                    year,
+                    line,
+                    intervals,
+                    lines,
+                    ..
+                },
+            ) => {
                 push_answer(&mut out, log.line, Answer::Taken)?;
                 flush(rt, &mut out)?;
                 return Ok(Some(Beginning {
@@ -74,7 +85,14 @@ fn keep_books(rt: &LibcRuntime, log: &mut Log<'_>, begin: Beginning) -> io::Resu
                     lines: lines as usize,
                 }));
             }
-            Entry::Read(command) => respond(&mut out, &mut journal, &mut roll, &mut board, log.line, command)?,
+            Entry::Read(command) => respond(
+                &mut out,
+                &mut journal,
+                &mut roll,
+                &mut board,
+                log.line,
+                command,
+            )?,
         }
         if out.len() > BLOCK {
             flush(rt, &mut out)?;

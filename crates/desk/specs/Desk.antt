@@ -29,6 +29,9 @@ pub record Desk : Type 0 where
   pub roll : List (Option Enrolment)
   pub board : Figures
 
+abbrev pub desk-of : Books → List (Option Enrolment) → Figures → Desk
+desk-of books roll board = record { books = books; roll = roll; board = board }
+
 -- a call without a result: taken, or its refusal
 abbrev pub plainly : Result (Unit {0}) Refusal → Answer
 plainly (Ok u) = Taken

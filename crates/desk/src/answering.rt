@@ -6,7 +6,7 @@ ghost use Rattle.sources.specs.Board.{figures};
 ghost use Rattle.journal.specs.Model.{model};
 ghost use Rattle.commands.specs.Answers.{interval-text, line-text};
 ghost use Rattle.commands.specs.Rows.{Writes};
-ghost use Rattle.desk.specs.Desk.{after, records-text, response};
+ghost use Rattle.desk.specs.Desk.{after, desk-of, records-text, response};
 use super::obeying::obey;
 use books::Roll;
 use commands::Command;
@@ -44,7 +44,11 @@ fn push_intervals(out: &mut Vec<u8>, journal: &Journal<'_>) -> Result<(), AllocE
 }
 
 // Appends the records that follow the answer to some commands.
-fn push_records(out: &mut Vec<u8>, journal: &Journal<'_>, command: Command) -> Result<(), AllocError>
+fn push_records(
+    out: &mut Vec<u8>,
+    journal: &Journal<'_>,
+    command: Command,
+) -> Result<(), AllocError>
     ensures { λ r. ⌜ Writes r (vec-items (now (out .entry))) (vec-items (now (out .exit))) (records-text command (model (now (journal .entry)))) ⌝ }
 {
     match command {
@@ -55,9 +59,16 @@ fn push_records(out: &mut Vec<u8>, journal: &Journal<'_>, command: Command) -> R
 }
 
 // Carries a command out and appends its answer.
-pub fn respond(out: &mut Vec<u8>, journal: &mut Journal<'_>, roll: &mut Roll, board: &mut Board, line: u64, command: Command) -> Result<(), AllocError>
-    ensures text { λ r. ⌜ Writes r (vec-items (now (out .entry))) (vec-items (now (out .exit))) (response line command (record { books = model (now (journal .entry)); roll = places (now (roll .entry)); board = figures (now (board .entry)) })) ⌝ }
-    ensures after { λ _. ⌜ record { books = model (now (journal .exit)); roll = places (now (roll .exit)); board = figures (now (board .exit)) } ≡ after command (record { books = model (now (journal .entry)); roll = places (now (roll .entry)); board = figures (now (board .entry)) }) ⌝ }
+pub fn respond(
+    out: &mut Vec<u8>,
+    journal: &mut Journal<'_>,
+    roll: &mut Roll,
+    board: &mut Board,
+    line: u64,
+    command: Command,
+) -> Result<(), AllocError>
+    ensures text { λ r. ⌜ Writes r (vec-items (now (out .entry))) (vec-items (now (out .exit))) (response line command (desk-of (model (now (journal .entry))) (places (now (roll .entry))) (figures (now (board .entry))))) ⌝ }
+    ensures after { λ _. ⌜ desk-of (model (now (journal .exit))) (places (now (roll .exit))) (figures (now (board .exit))) ≡ after command (desk-of (model (now (journal .entry))) (places (now (roll .entry))) (figures (now (board .entry)))) ⌝ }
 {
     let answer = obey(journal, roll, board, command);
     push_answer(out, line, answer)?;

@@ -2,7 +2,7 @@ ghost use mathlib.Core.Path.{_≡_};
 ghost use Rattle.books.specs.Roll.{places};
 ghost use Rattle.sources.specs.Board.{figures};
 ghost use Rattle.journal.specs.Model.{model};
-ghost use Rattle.desk.specs.Desk.{after, issue-by, meter-of, numbered, plainly, reply};
+ghost use Rattle.desk.specs.Desk.{after, desk-of, issue-by, meter-of, numbered, plainly, reply};
 use amounts::Refusal;
 use books::Roll;
 use commands::Answer;
@@ -36,8 +36,14 @@ fn number_answer(result: Result<u32, Refusal>) -> Answer
 }
 
 // Bills a supply by the index meter of a reading. Where there is no such meter, that is the refusal.
-fn issue_by_index(journal: &mut Journal<'_>, roll: &Roll, board: &Board, supply: Supply, reading: IndexReading) -> Result<u32, Refusal>
-    ensures { λ r. ⌜ (r, model (now (journal .exit))) ≡ issue-by (meter-of reading) supply (record { books = model (now (journal .entry)); roll = places (now (roll .entry)); board = figures (now (board .entry)) }) ⌝ }
+fn issue_by_index(
+    journal: &mut Journal<'_>,
+    roll: &Roll,
+    board: &Board,
+    supply: Supply,
+    reading: IndexReading,
+) -> Result<u32, Refusal>
+    ensures { λ r. ⌜ (r, model (now (journal .exit))) ≡ issue-by (meter-of reading) supply (desk-of (model (now (journal .entry))) (places (now (roll .entry))) (figures (now (board .entry)))) ⌝ }
 {
     match IndexMeter::new(reading.first, reading.last, reading.before, reading.after) {
         Err(refusal) => Err(refusal),
@@ -46,9 +52,14 @@ fn issue_by_index(journal: &mut Journal<'_>, roll: &Roll, board: &Board, supply:
 }
 
 // Carries a command out and says what it is answered. A setup is for whoever holds the storage, and changes nothing here.
-pub fn obey(journal: &mut Journal<'_>, roll: &mut Roll, board: &mut Board, command: Command) -> Answer
-    ensures answer { λ r. ⌜ r ≡ reply command (record { books = model (now (journal .entry)); roll = places (now (roll .entry)); board = figures (now (board .entry)) }) ⌝ }
-    ensures after { λ _. ⌜ record { books = model (now (journal .exit)); roll = places (now (roll .exit)); board = figures (now (board .exit)) } ≡ after command (record { books = model (now (journal .entry)); roll = places (now (roll .entry)); board = figures (now (board .entry)) }) ⌝ }
+pub fn obey(
+    journal: &mut Journal<'_>,
+    roll: &mut Roll,
+    board: &mut Board,
+    command: Command,
+) -> Answer
+    ensures answer { λ r. ⌜ r ≡ reply command (desk-of (model (now (journal .entry))) (places (now (roll .entry))) (figures (now (board .entry)))) ⌝ }
+    ensures after { λ _. ⌜ desk-of (model (now (journal .exit))) (places (now (roll .exit))) (figures (now (board .exit))) ≡ after command (desk-of (model (now (journal .entry))) (places (now (roll .entry))) (figures (now (board .entry)))) ⌝ }
 {
     match command {
         Command::Setup { .. } => Answer::Taken,

@@ -27,7 +27,9 @@ fn has_bad_days(supply: Supply) -> bool
     if !is_day(supply.first) || !is_day(supply.last) || !is_day(supply.issued) {
         return true;
     }
-    supply.last < supply.first || supply.last - supply.first >= MAX_DAYS || supply.issued < supply.last
+    supply.last < supply.first
+        || supply.last - supply.first >= MAX_DAYS
+        || supply.issued < supply.last
 }
 
 // The year of a day of the calendar.
@@ -46,7 +48,11 @@ impl<'a> Journal<'a> {
     }
 
     // May the supply be billed at all?
-    pub(crate) fn admitted(&self, enrolment: Option<Enrolment>, supply: Supply) -> Result<Admitted, Refusal>
+    pub(crate) fn admitted(
+        &self,
+        enrolment: Option<Enrolment>,
+        supply: Supply,
+    ) -> Result<Admitted, Refusal>
         ensures told { λ r. ⌜ r ≡ first-refused (admission enrolment supply (model (now (self .entry)))) (admitted-as enrolment supply (model (now (self .entry)))) ⌝ }
         ensures days { λ r. ⌜ made r (λ _. bad-days supply ≡ false) ⌝ }
         ensures bound { λ r. ⌜ made r (λ a. a .kwh ≤ 281474976710656) ⌝ }

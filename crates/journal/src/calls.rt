@@ -20,11 +20,17 @@ use sources::current::Current;
 
 // The most records that a journal uses of longer storage.
 const MAX_INTERVALS: usize = 16_384;
+
 const MAX_LINES: usize = 65_536;
 
 impl<'a> Journal<'a> {
     // An empty journal over the storage, whatever that held, from a first year and a first line number on.
-    pub fn setup(intervals: &'a mut [Interval], lines: &'a mut [Line], first_year: u16, first_line: u32) -> Journal<'a>
+    pub fn setup(
+        intervals: &'a mut [Interval],
+        lines: &'a mut [Line],
+        first_year: u16,
+        first_line: u32,
+    ) -> Journal<'a>
         ensures { λ r. ⌜ model r ≡ setup (length (now (intervals .entry))) (length (now (lines .entry))) «first_year» «first_line» ⌝ }
     {
         Journal {
@@ -37,7 +43,13 @@ impl<'a> Journal<'a> {
     }
 
     // The interval that an issue writes, or its refusal.
-    fn plan<S: Current, M: Meter>(&self, enrolment: Option<Enrolment>, source: &S, meter: &M, supply: Supply) -> Result<Interval, Refusal>
+    fn plan<S: Current, M: Meter>(
+        &self,
+        enrolment: Option<Enrolment>,
+        source: &S,
+        meter: &M,
+        supply: Supply,
+    ) -> Result<Interval, Refusal>
         ensures { λ r. ⌜ Planned (asked supply enrolment (quota (now (source .entry))) (price (now (source .entry))) (means (now (meter .entry)))) (model (now (self .entry))) r ⌝ }
     {
         let admitted = self.admitted(enrolment, supply)?;
@@ -57,7 +69,13 @@ impl<'a> Journal<'a> {
     }
 
     // Bills a supply: one standing interval and an energy line for each of its parts. The answer is the interval's number.
-    pub fn issue<S: Current, M: Meter>(&mut self, roll: &Roll, source: &S, meter: &M, supply: Supply) -> Result<u32, Refusal>
+    pub fn issue<S: Current, M: Meter>(
+        &mut self,
+        roll: &Roll,
+        source: &S,
+        meter: &M,
+        supply: Supply,
+    ) -> Result<u32, Refusal>
         ensures answers { λ r. ⌜ (r, model (now (self .exit))) ≡ issue (asked supply (enrolled (places (now (roll .entry))) (supply .place)) (quota (now (source .entry))) (price (now (source .entry))) (means (now (meter .entry)))) (model (now (self .entry))) ⌝ }
     {
         let enrolment = roll.enrolment(supply.place);

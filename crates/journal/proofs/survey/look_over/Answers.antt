@@ -25,8 +25,7 @@ loop-i-again c =
     let e = c .noted-seen .ensures in
     let settles = λ (k : Interval). interval-of p y k && is-settled (k .status) in
     let shares = λ (k : Interval). eqb (k .place) p && (leb (k .first) (c .args .supply .last) && leb (c .args .supply .first) (k .last)) in
-    let adds = λ (k : Interval). cond (interval-of p y k) (kwh-sum (k .parts)) 0 in
-    (
+    let adds = λ (k : Interval). cond (interval-of p y k) (kwh-sum (k .parts)) 0 in (
       e .settled ∙ (λ j. c .loop-i .inv .0 j || settles (read j)) ∙ sym (any-more settles xs i x in′),
       e .shared ∙ (λ j. c .loop-i .inv .1 j || shares (read j)) ∙ sym (any-more shares xs i x in′),
       e .kwh ∙ (λ j. c .loop-i .inv .2 j + adds (read j)) ∙ sym (sumBy-more adds xs i x in′),

@@ -54,8 +54,7 @@ returns g c =
     let pr = g .S·Current .price (c .args .source .now) in
     let m = g .M·Meter .means (c .args .meter .now) in
     let j = model (c .args .self .now) in
-    let is = planned-is (c .args .enrolment) (c .args .supply) q pr m j (c .in-Continue-admitted .admitted) (c .in-Continue-admitted .ensures tt .told) (c .in-Continue-measured .measured) (c .in-Continue-measured .ensures tt) (c .metered .result) (c .metered .ensures) in
-    (
+    let is = planned-is (c .args .enrolment) (c .args .supply) q pr m j (c .in-Continue-admitted .admitted) (c .in-Continue-admitted .ensures tt .told) (c .in-Continue-measured .measured) (c .in-Continue-measured .ensures tt) (c .metered .result) (c .metered .ensures) in (
       is,
       subst (λ (n : ℕ). Fits-in n j) (sym (ap (λ (x : Parts). x .count) (c .metered .ensures))) (c .in-Continue-bookable .ensures tt .fits),
       all-stages (c .args .enrolment) (c .args .supply) q pr m j (c .in-Continue-admitted .admitted) (c .in-Continue-admitted .ensures tt .told) (c .in-Continue-measured .measured) (c .in-Continue-measured .ensures tt) _ _ (c .in-Continue-bookable .ensures tt .told) is refl,

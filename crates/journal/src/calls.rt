@@ -18,9 +18,10 @@ use rules::Status;
 use rules::Supply;
 use sources::current::Current;
 
-// The most records that a journal uses of longer storage.
+// The most intervals that a journal uses of longer storage.
 const MAX_INTERVALS: usize = 16_384;
 
+// The most lines.
 const MAX_LINES: usize = 65_536;
 
 impl<'a> Journal<'a> {

@@ -6,5 +6,7 @@ mod held;
 mod measuring;
 mod questions;
 mod survey;
+#[cfg(test)]
+mod tests;
 
 pub use held::Journal;

@@ -4,7 +4,7 @@ use native.Mathlib.Omega.{arith}
 use borrow.Author.Needs.{needs}
 use Rattle.parts.specs.Pricing.{latest-priced, price-month}
 use Rattle.parts.proofs.Monthly.{first-month, told-month, silent-month}
-use Rattle.parts.proofs.pricing.latest_before.Needs as need
+use Rattle.parts.proofs.pricing.latest_price.Needs as need
 
 pub returns-then-month-le1 : need.returns-then-month-le1
 returns-then-month-le1 g c =

@@ -1,4 +1,6 @@
 // Money and energy by rule, and the numbered refusals of every call.
+#![tactic(auto)]
+
 pub mod figures;
 pub mod laws;
 pub mod refusal;

@@ -1,4 +1,5 @@
 // Answers to commands, and records, as they are written.
+#![tactic(auto)]
 
 mod answer;
 mod field;

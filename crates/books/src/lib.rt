@@ -1,4 +1,6 @@
 // Books of records over a caller's slices, and the roll of the places.
+#![tactic(auto)]
+
 mod book;
 pub mod dated;
 pub mod enrolment;

@@ -1,4 +1,6 @@
 // The calendar: days, months and years as numbers.
+#![tactic(auto)]
+
 pub mod dates;
 pub mod days;
 pub mod hours;

@@ -1,4 +1,5 @@
 // The commands of a log as they are read, and their answers as they are written.
+#![tactic(auto)]
 
 mod answer;
 mod command;

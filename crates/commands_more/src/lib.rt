@@ -1,4 +1,5 @@
 // The commands of a log, as they are read.
+#![tactic(auto)]
 
 mod command;
 mod fields;

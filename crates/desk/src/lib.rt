@@ -1,4 +1,5 @@
 // What the office's program does with a log of commands, on values.
+#![tactic(auto)]
 mod answering;
 mod log;
 mod obeying;

@@ -1,4 +1,5 @@
 // The journal of certificate lines: its calls and its questions.
+#![tactic(auto)]
 mod admission;
 mod booking;
 mod calls;

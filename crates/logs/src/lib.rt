@@ -1,4 +1,5 @@
 // A log of commands, taken line by line.
+#![tactic(auto)]
 mod log;
 
 pub use log::{Entry, Log};

@@ -1,4 +1,6 @@
 // Search by halving, among records in the order of their keys.
+#![tactic(auto)]
+
 mod keyed;
 mod search;
 

@@ -1,4 +1,5 @@
 // Notices: figures told by a text, one to a line.
+#![tactic(auto)]
 mod asking;
 pub mod held;
 mod keeping;

@@ -1,4 +1,6 @@
 // The lines of a notice, each read as the entry that it states.
+#![tactic(auto)]
+
 pub mod entry;
 mod line;
 mod reading;

@@ -1,6 +1,6 @@
 ghost use Rattle.std.specs.Prelude.{◌≡◌, ℕ, ◌+◌, ◌<◌, ◌≤◌, List, [], length};
 ghost use Rattle.books.specs.Enrolments.{percent_on};
-ghost use Rattle.parts.specs.Cutting.{CutParts, alike, cut, day_part, extend, fitted, longer, packed, silent_within};
+ghost use Rattle.parts.specs.Cutting.{CutParts, CutTells, alike, cut, day_part, extend, fitted, longer, packed, silent_within};
 
 use super::types::{Part, Parts};
 use books::Enrolment;
@@ -74,7 +74,7 @@ fn continues(part: Part, day: Part) -> bool
 // The source is silent for one of `count` days from `first` on.
 pub fn is_silent_within<S: Current>(source: &S, first: u16, count: u16) -> bool
     requires { first + count ≤ 65535 }
-    ensures { result ≡ silent_within (quota source.now) first count }
+    ensures { result ≡ silent_within (S.quota source.now) first count }
 {
     for offset in 0..count {
         if source.quota_on(first + offset).is_none() {
@@ -86,7 +86,7 @@ pub fn is_silent_within<S: Current>(source: &S, first: u16, count: u16) -> bool
 
 // One day as a part of its own. A silent day's quota counts as 0.
 fn day_alone<S: Current>(source: &S, enrolment: Enrolment, day: u16) -> Part
-    ensures { result ≡ day_part (quota source.now) (percent_on enrolment) day }
+    ensures { result ≡ day_part (S.quota source.now) (percent_on enrolment) day }
 {
     Part {
         first: day,
@@ -106,7 +106,7 @@ pub fn cut_days<S: Current>(
     count: u16,
 ) -> Option<Parts>
     requires { first + count ≤ 65535 }
-    ensures { result ≡ fitted (cut (quota source.now) (percent_on enrolment) first count) }
+    ensures { result ≡ fitted (cut (S.quota source.now) (percent_on enrolment) first count) }
 {
     let mut parts = Parts::none();
     for offset in 0..count {
@@ -122,6 +122,13 @@ pub fn cut_days<S: Current>(
 // The parts of any days cover them in order, are constant in quota and percent, and neighbours differ.
 pub fn cutting_laws() -> u8
     ensures { CutParts }
+{
+    0
+}
+
+// Where the source is silent for none of the days, it tells the quota of each part on each of its days.
+pub fn telling_laws() -> u8
+    ensures { CutTells }
 {
     0
 }

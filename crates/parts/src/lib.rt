@@ -1,4 +1,6 @@
 // The parts of a supply: neighbouring days with one quota and one percent, their price and their kWh.
+#![tactic(auto)]
+
 pub mod cutting;
 pub mod metering;
 pub mod pricing;

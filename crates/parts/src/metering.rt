@@ -8,7 +8,7 @@ use meters::meter::Meter;
 impl Part {
     // The part with the kWh that the meter means for its days. Silence counts as 0.
     fn by_meter<M: Meter>(self, meter: &M) -> Part
-        ensures { result ≡ part_by (means meter.now) self }
+        ensures { result ≡ part_by (M.means meter.now) self }
     {
         let kwh = meter.kwh(self.first, self.last).unwrap_or(0);
         Part {
@@ -32,7 +32,7 @@ impl Part {
 impl Parts {
     // The parts in use with the kWh that the meter means for their days.
     pub fn metered<M: Meter>(self, meter: &M) -> Parts
-        ensures { result ≡ metered (means meter.now) self }
+        ensures { result ≡ metered (M.means meter.now) self }
     {
         let mut list = self.list;
         for i in 0..usize::from(self.count).min(4) {

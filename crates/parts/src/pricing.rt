@@ -15,7 +15,7 @@ const MONTHS_BACK: u16 = 24;
 
 // The latest priced month of the 24 before the month of issue.
 pub fn latest_price<S: Current>(source: &S, issued: u16) -> Option<Priced>
-    ensures { result ≡ price_month_of (price source.now) issued }
+    ensures { result ≡ price_month_of (S.price source.now) issued }
 {
     let mut month = issued;
     for asked in 0..MONTHS_BACK {

@@ -1,4 +1,6 @@
 // What the journal holds, and what its calls mean.
+#![tactic(auto)]
+
 pub mod laws;
 pub mod types;
 

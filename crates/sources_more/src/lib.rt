@@ -1,4 +1,6 @@
 // Where a bill takes its quotas and prices from.
+#![tactic(auto)]
+
 mod asking;
 pub mod figures;
 mod forgetting;

@@ -48,7 +48,7 @@ impl<T: Copy, const N: usize> Kept<T, N> {
 impl<T: Numbered, const N: usize> Kept<T, N> {
     // The first item with the number, if there is one.
     pub(crate) fn find(&self, number: u16) -> Option<T>
-        ensures { result ≡ first_with numbers (items_of self.now) number }
+        ensures { result ≡ first_with T.numbers (items_of self.now) number }
     {
         for i in 0..self.len() {
             let it = self.get(i);
@@ -61,7 +61,7 @@ impl<T: Numbered, const N: usize> Kept<T, N> {
 
     // Keeps the items with this number or a higher one, in their order.
     pub(crate) fn keep_from(&mut self, least: u16)
-        ensures { items_of self.new ≡ from_on numbers least (items_of self.old) }
+        ensures { items_of self.new ≡ from_on T.numbers least (items_of self.old) }
     {
         let mut end = 0;
         for i in 0..self.count {

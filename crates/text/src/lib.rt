@@ -1,4 +1,5 @@
 // Bytes to numbers, fields and lines, and numbers to bytes.
+#![tactic(auto)]
 
 mod fields;
 mod lines;

@@ -16,7 +16,7 @@ pub fn push_text(out: &mut Vec<u8>, text: &[u8]) -> Result<(), AllocError>
 pub fn push_number(out: &mut Vec<u8>, n: u64) -> Result<(), AllocError>
     ensures { out.new.items ≡ appended (is_ok result) out.old.items (decimal n) }
 {
-    let digits = n.to_string(out.allocator())?;
+    let digits = n.to_string(*out.allocator())?;
     push_text(out, digits.as_bytes())
 }
 
@@ -24,6 +24,6 @@ pub fn push_number(out: &mut Vec<u8>, n: u64) -> Result<(), AllocError>
 pub fn push_signed(out: &mut Vec<u8>, amount: i128) -> Result<(), AllocError>
     ensures { out.new.items ≡ appended (is_ok result) out.old.items (signed_decimal amount) }
 {
-    let digits = amount.to_string(out.allocator())?;
+    let digits = amount.to_string(*out.allocator())?;
     push_text(out, digits.as_bytes())
 }

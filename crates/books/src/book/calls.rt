@@ -92,7 +92,7 @@ impl<'a, R: Copy> Book<'a, R> {
 impl<'a, R: Dated> Book<'a, R> {
     // The first record of the year at or after `from`.
     pub fn find(&self, year: u16, from: usize) -> Option<usize>
-        ensures { MatchOption result (NoneOf dates year (records self.now) from) (λ i. First dates year (records self.now) from i) }
+        ensures { MatchOption result (NoneOf R.dates year (records self.now) from) (λ i. First R.dates year (records self.now) from i) }
     {
         let mut i = from;
         while i < self.len() {
@@ -107,7 +107,7 @@ impl<'a, R: Dated> Book<'a, R> {
 
     // Removes the year's records, and keeps the others in their order.
     pub fn strike(&mut self, year: u16)
-        ensures after { records self.new ≡ filter (not_of dates year) (records self.old) }
+        ensures after { records self.new ≡ filter (not_of R.dates year) (records self.old) }
         ensures room { room self.new ≡ room self.old }
     {
         let end = self.gather(year);
@@ -116,7 +116,7 @@ impl<'a, R: Dated> Book<'a, R> {
 
     // Moves the records of other years to the front, and returns how many they are.
     fn gather(&mut self, year: u16) -> usize
-        ensures front { take result self.new.storage.now ≡ filter (not_of dates year) (records self.old) }
+        ensures front { take result self.new.storage.now ≡ filter (not_of R.dates year) (records self.old) }
         ensures room { room self.new ≡ room self.old }
     {
         let mut end = 0;

@@ -5,16 +5,16 @@ use Rattle.calendar.specs.Dates.{number_on}
 use Rattle.calendar.proofs.Figures.{no_digit, digit_read, few, one_more, digit_below}
 use Rattle.calendar.proofs.dates.number_in.Goals as goal
 
-pub returns-then-not-is-ascii-digit : goal.returns-then-not-is-ascii-digit
-returns-then-not-is-ascii-digit c =
+pub returns-then-not-is_ascii_digit : goal.returns-then-not-is_ascii_digit
+returns-then-not-is_ascii_digit c =
     let no : is_ascii_digit (get_or c.args.text.now c.loop-digit.digit-index 0) ≡ false = search rules in
     sym (no_digit c.loop-digit.number c.args.text.now c.loop-digit.digit-index c.loop-digit-test.true no) ∙ c.loop-digit.invariant.1
 
-pub overflow-mul-number : goal.overflow-mul-number
-overflow-mul-number c = let f = few c.loop-digit.number c.loop-digit.digit-index c.loop-digit.invariant.0 (omega arith) in omega arith
+pub overflow_mul-number : goal.overflow_mul-number
+overflow_mul-number c = let f = few c.loop-digit.number c.loop-digit.digit-index c.loop-digit.invariant.0 (omega arith) in omega arith
 
-pub overflow-add-number : goal.overflow-add-number
-overflow-add-number c =
+pub overflow_add-number : goal.overflow_add-number
+overflow_add-number c =
     let f = few c.loop-digit.number c.loop-digit.digit-index c.loop-digit.invariant.0 (omega arith) in
     let yes : is_ascii_digit (get_or c.args.text.now c.loop-digit.digit-index 0) ≡ true = search rules in
     let b = digit_below (get_or c.args.text.now c.loop-digit.digit-index 0) yes in

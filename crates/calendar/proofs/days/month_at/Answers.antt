@@ -3,7 +3,7 @@ use Rattle.calendar.specs.Days.{month_of, month_number}
 use Rattle.calendar.proofs.Starts.{month_low, month_high}
 use Rattle.calendar.proofs.days.month_at.Goals as goal
 
-answer : (c : goal.After-month-after) → month_of c.args.day ≡ 12 * (c.year-at-year.result - 2019) + c.month_after.result
+answer : (c : goal.After-month_after) → month_of c.args.day ≡ 12 * (c.year_at-year.result - 2019) + c.month_after.result
 unfolding month_of month_number
 answer c = search rules
 

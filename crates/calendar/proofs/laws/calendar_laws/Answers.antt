@@ -47,4 +47,4 @@ unfolding new_year year_of year_of_month month_in_year month_number month_length
 hours = (refl, refl)
 
 pub returns : goal.returns
-returns c = record { begins = begins; years = years; ends = ends; january = starts; months = months; year = year; month = month; month-year = in_its_year; rise = years_rise; worked = worked; hours = hours }
+returns c = record { begins = begins; years = years; ends = ends; january = starts; months = months; year = year; month = month; month_year = in_its_year; rise = years_rise; worked = worked; hours = hours }

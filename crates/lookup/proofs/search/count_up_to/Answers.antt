@@ -3,19 +3,19 @@ use Rattle.lookup.specs.Order.{Rising, Parted}
 use Rattle.lookup.proofs.Halves.{Halved, low_raised, high_lowered, place_counts}
 use Rattle.lookup.proofs.search.count_up_to.Goals as goal
 
-pub loop-low-preserved-then-is-up-to : goal.loop-low-preserved-then-is-up-to
-loop-low-preserved-then-is-up-to g c =
+pub loop-low-preserved-then-is_up_to : goal.loop-low-preserved-then-is_up_to
+loop-low-preserved-then-is_up_to g c =
     let l = c.loop-low in
     let x = c.index-items-middle in
-    let up = c.is-up-to in
-    (omega arith, omega arith, λ rise. low_raised g.T.Keyed.order c.args.limit c.args.items.now l.low l.high c.halfway-middle.result x.result up.result rise (omega arith) x.is up.ensures c.if-is-up-to.true (l.invariant.2 rise))
+    let up = c.is_up_to in
+    (omega arith, omega arith, λ rise. low_raised g.T.Keyed.order c.args.limit c.args.items.now l.low l.high c.halfway-middle.result x.result up.result rise (omega arith) x.is up.ensures c.if-is_up_to.true (l.invariant.2 rise))
 
 pub loop-low-preserved : goal.loop-low-preserved
 loop-low-preserved g c =
     let l = c.loop-low in
     let x = c.index-items-middle in
-    let up = c.is-up-to in
-    (omega arith, omega arith, λ rise. high_lowered g.T.Keyed.order c.args.limit c.args.items.now l.low l.high c.halfway-middle.result x.result up.result rise (omega arith) x.is up.ensures c.if-is-up-to.false (l.invariant.2 rise))
+    let up = c.is_up_to in
+    (omega arith, omega arith, λ rise. high_lowered g.T.Keyed.order c.args.limit c.args.items.now l.low l.high c.halfway-middle.result x.result up.result rise (omega arith) x.is up.ensures c.if-is_up_to.false (l.invariant.2 rise))
 
 pub returns : goal.returns
 returns g c =

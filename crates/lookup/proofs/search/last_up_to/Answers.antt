@@ -5,9 +5,9 @@ pub returns : goal.returns
 returns g c =
     let order = g.T.Keyed.order in
     let xs = c.args.items.now in
-    let count = c.count-up-to.result in
-    let told = c.count-up-to.ensures in
+    let count = c.count_up_to.result in
+    let told = c.count_up_to.ensures in
     record {
-      last = λ rise. last_is order c.args.limit xs count c.last-of.result told.within (told.parted rise) c.last-of.ensures;
-      greatest = λ rise. greatest_is order c.args.limit xs count c.last-of.result rise told.within (told.parted rise) c.last-of.ensures;
+      last = λ rise. last_is order c.args.limit xs count c.last_of.result told.within (told.parted rise) c.last_of.ensures;
+      greatest = λ rise. greatest_is order c.args.limit xs count c.last_of.result rise told.within (told.parted rise) c.last_of.ensures;
     }

@@ -1,14 +1,5 @@
 use Rattle.rules.proofs.Issues.{table_rises, supply-parted, supply-adds_up}
-use Rattle.rules.proofs.Shared.{day_is_shared, shared_by_day}
-use Rattle.rules.proofs.Taking.{issue-taken}
 use Rattle.rules.proofs.laws.issue_laws.Goals as goal
 
 pub returns : goal.returns
-returns c = record {
-  rising = table_rises;
-  parted = supply-parted;
-  adds_up = supply-adds_up;
-  taken = issue-taken;
-  shared = shared_by_day;
-  shares = day_is_shared;
-}
+returns c = record { rising = table_rises; parted = supply-parted; adds_up = supply-adds_up }

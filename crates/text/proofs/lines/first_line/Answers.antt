@@ -2,13 +2,13 @@ use Rattle.std.proofs.Common.{◌≡◌, length, refl, rules}
 use Rattle.text.proofs.Cutting.{no_line, take-line}
 use Rattle.text.proofs.lines.first_line.Goals as goal
 
-pub returns-then-is-empty : goal.returns-then-is-empty
-returns-then-is-empty c =
+pub returns-then-is_empty : goal.returns-then-is_empty
+returns-then-is_empty c =
     let none : length c.args.text.now ≡ 0 = search rules in
     no_line c.args.text.now none
 
 pub returns : goal.returns
 returns c =
-    let cut = c.cut-at-cut.result in
+    let cut = c.cut_at-cut.result in
     let some : length c.args.text.now ≡ 0 → ⊥ = search rules in
-    take-line c.args.text.now cut.front.now cut.rest c.unwrap-or.result _ some c.cut-at-cut.ensures.front c.cut-at-cut.ensures.rest c.unwrap-or.ensures refl
+    take-line c.args.text.now cut.front.now cut.rest c.unwrap_or.result _ some c.cut_at-cut.ensures.front c.cut_at-cut.ensures.rest c.unwrap_or.ensures refl

@@ -3,8 +3,8 @@ use Rattle.text.specs.Numbers.{unpadded}
 use Rattle.text.proofs.Reading.{no_text, padded, parsed_copy, plus-first}
 use Rattle.text.proofs.numbers.read_number.Goals as goal
 
-pub returns-then-not-is-unpadded : goal.returns-then-not-is-unpadded
-returns-then-not-is-unpadded c = let e : unpadded c.args.text.now ≡ false = search rules in sym (padded c.args.text.now e)
+pub returns-then-not-is_unpadded : goal.returns-then-not-is_unpadded
+returns-then-not-is_unpadded c = let e : unpadded c.args.text.now ≡ false = search rules in sym (padded c.args.text.now e)
 
 pub returns-then-text-eq43 : goal.returns-then-text-eq43
 returns-then-text-eq43 c = sym (plus-first c.args.text.now c.if-text-eq43.true)

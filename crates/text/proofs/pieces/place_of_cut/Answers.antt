@@ -5,8 +5,8 @@ pub returns : goal.returns
 returns c =
     let t = c.args.text.now in
     let b = c.args.byte in
-    let i = c.find-byte.result in
-    let place = c.find-byte.ensures in
+    let i = c.find_byte.result in
+    let place = c.find_byte.ensures in
     record {
       within = place.within;
       front = front_of b t i place.within place.none_before place.found;

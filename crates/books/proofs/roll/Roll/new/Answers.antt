@@ -4,5 +4,5 @@ use Rattle.books.specs.declared.enrolment.Enrolment.{Enrolment}
 use Rattle.books.proofs.Rolls.{all_small}
 use Rattle.books.proofs.roll.Roll.new.Goals as goal
 
-pub invariant-of-result : goal.invariant-of-result
-invariant-of-result c = let nobody : Option Enrolment = None in (length-replicate 250 nobody, (all_small 250 _ (omega arith), tt))
+pub invariant_of-result : goal.invariant_of-result
+invariant_of-result c = let nobody : Option Enrolment = None in record { size = length-replicate 250 nobody; part = all_small 250 _ (omega arith) }

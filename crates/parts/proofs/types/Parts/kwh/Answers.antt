@@ -9,7 +9,7 @@ loop-i-preserved c =
     let list = c.args.self.list in
     let in' : c.loop-i.i < length list = omega arith in
     let more = sum_by_more (λ p. p.kwh) list c.loop-i.i blank in' in
-    (omega (arith, c.wide-kwh-sum.ensures.is), omega (arith, c.wide-kwh-sum.ensures.bound))
+    (omega (arith, c.wide_kwh-sum.ensures.is), omega (arith, c.wide_kwh-sum.ensures.bound))
 
 pub returns : goal.returns
 returns c =

@@ -9,7 +9,7 @@ loop-i-preserved g c =
     let list = c.args.self.list in
     let f = part_by (g.M.Meter.means c.args.meter.now) in
     let in' : c.loop-i.i < length list = omega arith in
-    map_front f list c.loop-i.list c.loop-i.i in' c.loop-i.invariant c.by-meter.result blank (c.by-meter.ensures ∙ ap f (read_front f list c.loop-i.list c.loop-i.i in' c.loop-i.invariant blank))
+    map_front f list c.loop-i.list c.loop-i.i in' c.loop-i.invariant c.by_meter.result blank (c.by_meter.ensures ∙ ap f (read_front f list c.loop-i.list c.loop-i.i in' c.loop-i.invariant blank))
 
 pub returns : goal.returns
 returns g c =

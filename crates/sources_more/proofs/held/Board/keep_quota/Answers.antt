@@ -2,8 +2,8 @@ use Rattle.sources_more.specs.Lists.{items_of}
 use Rattle.sources_more.proofs.Quotas.{rising_push}
 use Rattle.sources_more.proofs.held.Board.keep_quota.Goals as goal
 
-pub invariant-of-self : goal.invariant-of-self
-invariant-of-self c =
+pub invariant_of-self : goal.invariant_of-self
+invariant_of-self c =
     let b = c.args.self.now in
     let rising = rising_push (items_of b.quotas) c.args.told b.rising c.requires.1 in
-    (rw c.push.ensures rising, (b.single, (b.settled, tt)))
+    record { rising = rw c.push.ensures rising; single = b.single; settled = b.settled }

@@ -2,8 +2,8 @@ use Rattle.std.proofs.Common.{◌<◌, sym, ◌∙◌, arith}
 use Rattle.std.proofs.lemmas.List.{get_or-take, get_or_default, length-take-le}
 use Rattle.sources_more.proofs.kept.Kept.get.Goals as goal
 
-pub offset-bounds-self-i : goal.offset-bounds-self-i
-offset-bounds-self-i g c =
+pub offset_bounds-self-i : goal.offset_bounds-self-i
+offset_bounds-self-i g c =
     let k = c.args.self.now in
     omega (arith, length-take-le k.count k.items (omega arith), c.requires)
 

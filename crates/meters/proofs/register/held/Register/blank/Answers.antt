@@ -5,9 +5,9 @@ use Rattle.meters.specs.Register.{unread}
 use Rattle.meters.specs.Registers.{unread_within, unread_small}
 use Rattle.meters.proofs.register.held.Register.blank.Goals as goal
 
-pub invariant-of-result : goal.invariant-of-result
-invariant-of-result c =
-    (omega arith, (omega arith, (refl, ((λ k. unread_within 366 k (hours_of (new_year c.args.year + k))), ((λ k. unread_small 366 k), tt)))))
+pub invariant_of-result : goal.invariant_of-result
+invariant_of-result c =
+    record { from = omega arith; to = omega arith; room = refl; within = (λ k. unread_within 366 k (hours_of (new_year c.args.year + k))); small = (λ k. unread_small 366 k) }
 
 pub returns : goal.returns
 unfolding unread

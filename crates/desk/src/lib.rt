@@ -1,5 +1,6 @@
 // What the office's program does with a log of commands, on values.
 #![tactic(auto)]
+
 mod answering;
 mod log;
 mod obeying;

@@ -46,7 +46,7 @@ impl<'a> Journal<'a> {
         meter: &M,
         supply: Supply,
     ) -> Result<Interval, Refusal>
-        ensures { Planned (asked supply enrolment (quota source.now) (price source.now) (means meter.now)) (model self.now) result }
+        ensures { Planned (asked supply enrolment (S.quota source.now) (S.price source.now) (M.means meter.now)) (model self.now) result }
     {
         let admitted = self.admitted(enrolment, supply)?;
         let measured = measured(source, meter, admitted, supply)?;
@@ -72,7 +72,7 @@ impl<'a> Journal<'a> {
         meter: &M,
         supply: Supply,
     ) -> Result<u32, Refusal>
-        ensures answers { (result, model self.new) ≡ issue (asked supply (enrolled (places roll.now) supply.place) (quota source.now) (price source.now) (means meter.now)) (model self.old) }
+        ensures answers { (result, model self.new) ≡ issue (asked supply (enrolled (places roll.now) supply.place) (S.quota source.now) (S.price source.now) (M.means meter.now)) (model self.old) }
     {
         let enrolment = roll.enrolment(supply.place);
         match self.plan(enrolment, source, meter, supply) {

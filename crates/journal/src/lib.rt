@@ -1,5 +1,6 @@
 // The journal of certificate lines: its calls and its questions.
 #![tactic(auto)]
+
 mod admission;
 mod booking;
 mod calls;

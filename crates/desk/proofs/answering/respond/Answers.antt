@@ -11,6 +11,6 @@ returns c =
     let told = ap (answer_text c.args.line) c.obey-answer.ensures.answer in
     let kept = ap (λ (d : Desk). records_text c.args.command d.books) c.obey-answer.ensures.after in
     record {
-      text = subst (λ (t : List ℕ). Writes c.push-records.result (vec_items c.args.out.now) (vec_items c.push-records.new.out) t) (λ i. told i ++ kept i) (written_both c.push-records.result (vec_items c.args.out.now) (vec_items c.push-answer.new.out) (vec_items c.push-records.new.out) _ _ c.in-ok-push-answer.ensures c.push-records.ensures);
+      text = subst (λ (t : List ℕ). Writes c.push_records.result (vec_items c.args.out.now) (vec_items c.push_records.new.out) t) (λ i. told i ++ kept i) (written_both c.push_records.result (vec_items c.args.out.now) (vec_items c.push_answer.new.out) (vec_items c.push_records.new.out) _ _ c.in_ok-push_answer.ensures c.push_records.ensures);
       after = c.obey-answer.ensures.after;
     }

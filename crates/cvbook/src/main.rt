@@ -1,5 +1,6 @@
 // The office's program: it replays a log of commands from standard input and answers each on standard output.
 #![tactic(auto)]
+
 use books::Roll;
 use commands::{Answer, Command, push_answer, push_end};
 use desk::{Entry, Log, respond};

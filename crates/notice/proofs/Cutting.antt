@@ -1,5 +1,5 @@
 -- The first line of a text, and what follows it.
-use Rattle.std.proofs.Common.{◌≡◌, ℕ, ◌+◌, ◌<◌, Bool, true, false, cond, not, ◌&&◌, eqb, List, [], ◌∷◌, length, is_some, Some, None, Ok, Option, unwrap_or, sym, refl, ap, ◌∙◌, subst, ⊎_elim, arith, MutBor}
+use Rattle.std.proofs.Common.{◌≡◌, ℕ, ◌+◌, ◌<◌, Bool, true, false, cond, not, ◌&&◌, eqb, List, [], ◌∷◌, length, is_some, Some, None, Ok, Option, unwrap_or, sym, refl, ap, ◌∙◌, subst, ⊎_elim, arith, Bor}
 use Rattle.std.specs.Option.{option_map}
 use Rattle.std.proofs.lemmas.Bool.{cases_Bool, cond-true, cond-false, ne_eqb}
 use Rattle.text.specs.Pieces.{after, before, onto, split}
@@ -64,7 +64,7 @@ begins_ended t u e =
     }
 
 -- a text that is not empty, cut as the code cuts it
-pub begins : (t line : List ℕ) (rest : Option (MutBor (List ℕ))) (ended : Bool) (on end : MutBor (List ℕ)) → (length t ≡ 0 → ⊥) → line ≡ before 10 t → option_map (λ x. x.now) rest ≡ after 10 t → ended ≡ is_some rest → on ≡ unwrap_or rest end → end.now ≡ [] → Begins t line ended on.now
+pub begins : (t line : List ℕ) (rest : Option (Bor (List ℕ))) (ended : Bool) (on end : Bor (List ℕ)) → (length t ≡ 0 → ⊥) → line ≡ before 10 t → option_map (λ x. x.now) rest ≡ after 10 t → ended ≡ is_some rest → on ≡ unwrap_or rest end → end.now ≡ [] → Begins t line ended on.now
 begins t line None ended on end some front follows has is none =
     let b = begins_unended t some (sym follows) in
     subst (λ (r : List ℕ). Begins t line ended r) (sym (ap (λ x. x.now) is ∙ none)) (subst (λ (v : Bool). Begins t line v []) (sym has) (subst (λ (l : List ℕ). Begins t l false []) (sym front) b))

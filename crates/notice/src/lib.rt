@@ -1,5 +1,6 @@
 // Notices: figures told by a text, one to a line.
 #![tactic(auto)]
+
 mod asking;
 pub mod held;
 mod keeping;

@@ -8,10 +8,10 @@ use Rattle.answers.proofs.row.push_fields.Goals as goal
 
 pub loop-field-preserved : goal.loop-field-preserved
 loop-field-preserved c =
-    field_more c.args.out.now.items c.loop-field.out.items c.push-next.new.out.items c.args.fields.now c.loop-field.field-index (Number 0)
+    field_more c.args.out.now.items c.loop-field.out.items c.push_next.new.out.items c.args.fields.now c.loop-field.field-index (Number 0)
     (omega arith)
     c.loop-field.invariant
-    c.in-ok-push-next.ensures
+    c.in_ok-push_next.ensures
 
 pub returns : goal.returns
 returns c =

@@ -11,9 +11,9 @@ pub returns : goal.returns
 returns c =
     let it = c.args.interval.now in
     let was = c.args.out.now.items in
-    let mid = c.push-parts.new.out.items in
-    let is = c.push-text.new.out.items in
+    let mid = c.push_parts.new.out.items in
+    let is = c.push_text.new.out.items in
     let parts = flat_map part_fields (used it.parts) in
-    written_on c.push-text.result was mid is (with_commas (head_fields it ++ parts)) (10 ∷ [])
-    (commas_on was c.push-head.new.out.items mid (decimal it.number) (after_next (head_fields it)) parts c.in-ok-push-head.ensures c.in-ok-push-parts.ensures)
-    (all_written c.push-text.result mid is (10 ∷ []) c.push-text.ensures)
+    written_on c.push_text.result was mid is (with_commas (head_fields it ++ parts)) (10 ∷ [])
+    (commas_on was c.push_head.new.out.items mid (decimal it.number) (after_next (head_fields it)) parts c.in_ok-push_head.ensures c.in_ok-push_parts.ensures)
+    (all_written c.push_text.result mid is (10 ∷ []) c.push_text.ensures)

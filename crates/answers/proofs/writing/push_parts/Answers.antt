@@ -9,10 +9,10 @@ use Rattle.answers.proofs.writing.push_parts.Goals as goal
 
 pub loop-i-preserved : goal.loop-i-preserved
 loop-i-preserved c =
-    part_more c.args.out.now.items c.loop-i.out.items c.push-part.new.out.items c.args.parts.list c.loop-i.i blank
+    part_more c.args.out.now.items c.loop-i.out.items c.push_part.new.out.items c.args.parts.list c.loop-i.i blank
     (omega arith)
     c.loop-i.invariant
-    c.in-ok-push-part.ensures
+    c.in_ok-push_part.ensures
 
 pub returns : goal.returns
 returns c =

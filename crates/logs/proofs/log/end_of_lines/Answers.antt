@@ -11,7 +11,7 @@ returns-then-left-eq0 c =
     }
 
 pub loop-i-preserved : goal.loop-i-preserved
-loop-i-preserved c = byte_more c.args.text.now _ c.loop-i.i c.loop-i.left c.left-behind-left.result (search rules) (search rules) c.left-behind-left.ensures c.loop-i.invariant
+loop-i-preserved c = byte_more c.args.text.now _ c.loop-i.i c.loop-i.left c.left_behind-left.result (search rules) (search rules) c.left_behind-left.ensures c.loop-i.invariant
 
 pub returns : goal.returns
 returns c = record {

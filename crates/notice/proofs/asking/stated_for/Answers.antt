@@ -10,6 +10,6 @@ same_first date (x ∷ xs) n = ap (cond (eqb (date x) n) (Some x)) (same_first d
 
 pub returns : goal.returns
 returns g c = λ rising.
-    let found = c.find-key.ensures rising in
+    let found = c.find_key.ensures rising in
     let same = same_first (λ x. g.T.Keyed.order x) c.args.items.now c.args.date in
     cc

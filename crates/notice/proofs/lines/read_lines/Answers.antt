@@ -10,12 +10,12 @@ use Rattle.notice.proofs.lines.read_lines.Goals as goal
 pub keep-requires : goal.keep-requires
 keep-requires c =
     let next = c.in-Some.next in
-    let follows = line_follows next.ended c.last_dates.result next.text.now c.in-Ok.entry (sym c.read-line.ensures ∙ c.in-Ok.is) in
+    let follows = line_follows next.ended c.last_dates.result next.text.now c.in-Ok.entry (sym c.read_line.ensures ∙ c.in-Ok.is) in
     subst (λ (last : Dates). Follows last c.in-Ok.entry) c.last_dates.ensures follows
 
 -- nothing is left, and what was read is all
 pub returns : goal.returns
 unfolding split
 returns c =
-    let none = nil_from_length c.loop-next.rest.now c.in-default.ensures in
+    let none = nil_from_length c.loop-next.rest.now c.in_default.ensures in
     sym (ap (λ t. read_lines (c.loop-next.line + 1) (figures c.loop-next.tables) (pieces t)) none) ∙ c.loop-next.invariant.0

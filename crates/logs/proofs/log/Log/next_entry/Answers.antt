@@ -3,8 +3,8 @@ use Rattle.std.proofs.lemmas.Bool.{cond-true, eq-eqb, eqb-true}
 use Rattle.logs.proofs.Taking.{empty_after}
 use Rattle.logs.proofs.log.Log.next_entry.Goals as goal
 
-pub returns-then-is-empty : goal.returns-then-is-empty
-returns-then-is-empty c =
+pub returns-then-is_empty : goal.returns-then-is_empty
+returns-then-is_empty c =
     let t = c.args.self.now.rest.now in
     let none : length t ≡ 0 = search rules in
     record { value = search rules; rest = empty_after t none; line = search rules }

@@ -5,9 +5,9 @@ use Rattle.logs.proofs.log.Log.take_lines.Goals as goal
 pub returns : goal.returns
 returns c =
     let all = c.args.self.now.rest.now in
-    let end = c.end-of-lines-end.result in
+    let end = c.end_of_lines-end.result in
     record {
-      text = c.end-of-lines-end.ensures.front;
+      text = c.end_of_lines-end.ensures.front;
       rest = ap (λ u. take end all ++ u) (take_rest all end) ∙ take-append-drop end all;
       line = search rules;
     }

@@ -60,6 +60,14 @@ def snake(name):
     return name.replace('-', '_')
 
 
+def own_words(text):
+    """The library's words under their own names: its older All is AllByRecursion, and All is another word now."""
+    if 'AllByRecursion as All' not in text:
+        return text
+    text = text.replace('AllByRecursion as All', 'AllByRecursion')
+    return re.sub(r'(?<![\w.-])All(?![\w-])', 'AllByRecursion', text)
+
+
 def main():
     facts, words, lemmas = {}, {}, {}
     for path in own_files(['specs', 'proofs']):
@@ -127,7 +135,7 @@ def main():
         return
     for path in own_files(['specs', 'proofs', 'src', 'must-fail']):
         text = path.read_text()
-        new = TOKEN.sub(lambda m: table.get(m.group(0), m.group(0)), text)
+        new = own_words(TOKEN.sub(lambda m: table.get(m.group(0), m.group(0)), text))
         if new != text:
             path.write_text(new)
 

@@ -1,6 +1,6 @@
 -- A call by its table of conditions, as other proofs use it.
 use Rattle.std.proofs.Common.{◌≡◌, ◌<◌, ◌≤◌, Bool, true, false, [], ◌∷◌, Ok, Err, Result, sym, refl, subst, inl, inr, ⊎_elim, arith}
-use Rattle.std.specs.List.{AllByRecursion as All}
+use Rattle.std.specs.List.{AllByRecursion}
 use Rattle.std.proofs.ByRecursion.{All-weaker}
 use Rattle.std.proofs.lemmas.Bool.{both_ways, cond_both, cases_Bool, cond-true, cond-false}
 use Rattle.amounts.specs.declared.refusal.Refusal.{Refusal}
@@ -44,11 +44,11 @@ decide-first (c ∷ cs) j a taken =
     ⊎_elim (λ e. rw e) (λ e. rw e (decide-first cs j a taken)) (cases_Bool c.0)
 
 module _ {A J : Type 0} (P : Result A Refusal → J → Type 0) (j : J) (a : A) (taken : J) (no : (r : Refusal) → P (Err r) j) where
-  either : (t : Table) → (All (λ c. c.0 ≡ false) t → P (Ok a) taken) → P (decide t j a taken).0 (decide t j a taken).1
+  either : (t : Table) → (AllByRecursion (λ c. c.0 ≡ false) t → P (Ok a) taken) → P (decide t j a taken).0 (decide t j a taken).1
   either [] k = k tt
   either (c ∷ cs) k =
       ⊎_elim (λ e. rw e (no c.1)) (λ e. rw e (either cs (λ h. k (e, h)))) (cases_Bool c.0)
 
   -- refused with the state as it was, or taken with every condition false
-  pub answered : (t : Table) → (All (λ c. c.0 ≡ false) t → P (Ok a) taken) → (r : Result A Refusal) (j' : J) → (r, j') ≡ decide t j a taken → P r j'
+  pub answered : (t : Table) → (AllByRecursion (λ c. c.0 ≡ false) t → P (Ok a) taken) → (r : Result A Refusal) (j' : J) → (r, j') ≡ decide t j a taken → P r j'
   answered t k r j' e = subst (λ (o : Outcome A J). P o.0 o.1) (sym e) (either t k)

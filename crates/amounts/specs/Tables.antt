@@ -1,6 +1,6 @@
 -- A call's conditions in the order of their numbers: the first that holds is the refusal, and then nothing changes.
 use Rattle.std.specs.Prelude.{◌≡◌, ◌<◌, ◌≤◌, Bool, true, false, cond, ◌⊎◌, List, [], ◌∷◌, Ok, Err, Result}
-use Rattle.std.specs.List.{AllByRecursion as All}
+use Rattle.std.specs.List.{AllByRecursion}
 use Rattle.amounts.specs.declared.refusal.Refusal.{Refusal}
 use Rattle.amounts.specs.Refusals.{number}
 
@@ -29,13 +29,13 @@ Given e (c ∷ cs) = ((c.0 ≡ true) × (c.1 ≡ e)) ⊎ Given e cs
 
 -- no condition holds; or the refusal's does, and none with a smaller number
 abbrev pub Smallest : {X : Type 0} → Table → Result X Refusal → Type 0
-Smallest t (Ok x) = All (λ c. c.0 ≡ false) t
-Smallest t (Err e) = Given e t × All (λ c. c.0 ≡ true → number e ≤ number c.1) t
+Smallest t (Ok x) = AllByRecursion (λ c. c.0 ≡ false) t
+Smallest t (Err e) = Given e t × AllByRecursion (λ c. c.0 ≡ true → number e ≤ number c.1) t
 
 -- the numbers of a table rise
 abbrev pub Rising : Table → Type 0
 Rising [] = Unit {0}
-Rising (c ∷ cs) = All (λ k. number c.1 < number k.1) cs × Rising cs
+Rising (c ∷ cs) = AllByRecursion (λ k. number c.1 < number k.1) cs × Rising cs
 
 -- with numbers that rise the first condition that holds is the one with the smallest number
 abbrev pub SmallestFirst : {X : Type 0} → X → Type 0

@@ -1,5 +1,6 @@
 // The office's program: it replays a log of commands from standard input and answers each on standard output.
 #![tactic(auto)]
+
 use answers::{Answer, push_answer, push_end};
 use commands_more::{Beginning, Command, usual_beginning};
 use desk_more::{respond, respond_to_notice};

@@ -1,5 +1,5 @@
 -- A log: lines that end with byte 10, each a command, or passed over.
-use Rattle.std.specs.Prelude.{ℕ, Bool, true, false, cond, not, List, [], is_some, Some, None, Option}
+use Rattle.std.specs.Prelude.{ℕ, Bool, cond, List, [], is_some, Some, None, Option}
 use Rattle.text.specs.Pieces.{after, before}
 use Rattle.commands.specs.Commands.{command, passed_over}
 use Rattle.commands.specs.declared.command.Command.{Command}

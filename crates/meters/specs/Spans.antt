@@ -1,6 +1,6 @@
 -- Spans of days, and amounts of them that may be silent.
 use Rattle.std.specs.Prelude.{◌≡◌, ℕ, ◌+◌, ◌-◌, ◌<◌, ◌≤◌, Bool, ◌&&◌, List, [], ◌∷◌, Some, None, sum_by, Option, nat_le}
-use Rattle.std.specs.List.{AllByRecursion as All}
+use Rattle.std.specs.List.{AllByRecursion}
 use Rattle.calendar.specs.Days.{is_day}
 
 -- told just where both are, and then their sum
@@ -27,7 +27,7 @@ Covers a c (s ∷ (t ∷ rest)) = (s.0 ≡ a) × (a ≤ s.1) × (s.1 < c) × Cov
 -- each of the spans is told, and they add up to k
 abbrev pub AddUp : (ℕ → ℕ → Option ℕ) → List (ℕ × ℕ) → ℕ → Type 0
 AddUp means spans k =
-    All (λ s. means s.0 s.1 ≡ Some (told (means s.0 s.1))) spans
+    AllByRecursion (λ s. means s.0 s.1 ≡ Some (told (means s.0 s.1))) spans
     × (sum_by (λ s. told (means s.0 s.1)) spans ≡ k)
 
 -- however a told span is covered, the parts are told and add up to it

@@ -1,5 +1,5 @@
 -- One register more among those that are kept.
-use Rattle.std.proofs.Common.{◌≡◌, ℕ, ◌<◌, false, leb, map, length, get_or, set, Some, None, Option, Result, sym, ap, ◌∙◌}
+use Rattle.std.proofs.Common.{◌≡◌, ℕ, ◌<◌, false, leb, length, get_or, set, Some, None, Option, Result, sym, ap, ◌∙◌}
 use Rattle.std.specs.Option.{option_map}
 use Rattle.std.proofs.lemmas.List.{get_or-map, map-set}
 use Rattle.std.proofs.lemmas.Bool.{cond-false}

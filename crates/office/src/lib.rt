@@ -1,5 +1,6 @@
 // An office: what each command does, and what it is answered.
 #![tactic(auto)]
+
 mod keeping;
 mod obeying;
 mod office;

@@ -38,7 +38,7 @@ fn issue_by<M: Meter>(
     meter: &M,
     supply: Supply,
 ) -> Answer
-    ensures { (result, desk_of (model journal.new) office.now) ≡ issue_by (means meter.now) supply (desk_of (model journal.old) office.now) }
+    ensures { (result, desk_of (model journal.new) office.now) ≡ issue_by (M.means meter.now) supply (desk_of (model journal.old) office.now) }
 {
     let result = match &office.notice {
         None => journal.issue(&office.roll, &office.board, meter, supply),

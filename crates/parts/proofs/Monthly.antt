@@ -1,5 +1,5 @@
 -- One month more of those that are asked for a price, and what all of them tell.
-use Rattle.std.proofs.Common.{◌≡◌, ℕ, zero, suc, ◌+◌, ◌-◌, ◌<◌, ◌≤◌, true, false, leb, Some, None, Option, sym, refl, ap, ◌∙◌, ⊎_elim, arith}
+use Rattle.std.proofs.Common.{◌≡◌, ℕ, zero, suc, ◌+◌, ◌-◌, ◌<◌, ◌≤◌, leb, Some, None, Option, refl, ap, ◌∙◌, ⊎_elim, arith}
 use Rattle.std.proofs.lemmas.Bool.{cases_eq, cond_both, cond-true, cond-false, le-leb, leb-false, leb-true, lt-leb}
 use Rattle.parts.specs.declared.pricing.Priced.{Priced}
 use Rattle.parts.specs.Pricing.{LatestOrNone, latest_priced, priced_at}

@@ -1,13 +1,13 @@
 -- A day is shared exactly where some day lies in both intervals.
 use Rattle.std.proofs.Common.{◌≡◌, ℕ, ◌≤◌, max, true, false, ◌&&◌, eqb, leb, List, [], ◌∷◌, refl, inl, inr, ⊎_elim, arith}
-use Rattle.std.specs.List.{AllByRecursion as All}
+use Rattle.std.specs.List.{AllByRecursion}
 use Rattle.std.proofs.lemmas.Bool.{and_from, and_parts, both_ways, eq-eqb, eqb-true, le-leb, leb-true, or_cases, or_left, or_right}
 use Rattle.rules.specs.declared.types.Interval.{Interval}
 use Rattle.rules.specs.Books.{shared_day}
 use Rattle.rules.specs.Laws.{DayShared, Shares}
 
 module _ (p a b : ℕ) where
-  pub shared_by_day : (is : List Interval) → a ≤ b → All (λ i. i.first ≤ i.last) is → shared_day p a b is ≡ true → DayShared p a b is
+  pub shared_by_day : (is : List Interval) → a ≤ b → AllByRecursion (λ i. i.first ≤ i.last) is → shared_day p a b is ≡ true → DayShared p a b is
   shared_by_day [] h lasting e = absurd (both_ways false refl e)
   shared_by_day (i ∷ is) h lasting e =
       ⊎_elim

@@ -1,5 +1,5 @@
 -- The figures that a board keeps, and what they say of a day and of a month.
-use Rattle.std.specs.Prelude.{◌≡◌, ℕ, ◌-◌, ◌<◌, cond, List, [], ◌∷◌, length, Some, None, fold, Option, ◌==◌, ◌≢◌, nat_le, slice_index_or}
+use Rattle.std.specs.Prelude.{ℕ, ◌-◌, ◌<◌, cond, List, [], ◌∷◌, length, Some, None, fold, Option, ◌==◌, ◌≢◌, nat_le, slice_index_or}
 use Rattle.sources.specs.declared.figures.QuotaFrom.{QuotaFrom}
 use Rattle.sources.specs.declared.figures.MonthPrice.{MonthPrice}
 

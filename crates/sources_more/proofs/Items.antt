@@ -1,7 +1,7 @@
 -- Items by their numbers: what is found, what is kept from a number on, and what holds of each two.
 use Rattle.std.proofs.Common.{◌≡◌, ℕ, zero, suc, ◌<◌, ◌≤◌, Bool, true, false, cond, eqb, leb, List, [], ◌∷◌, ◌++◌, length, get_or, is_some, Some, None, filter, Option, sym, refl, ap, ◌∙◌, ⊎_elim, arith}
 use Rattle.std.specs.Option.{option_map}
-use Rattle.std.specs.List.{AllByRecursion as All}
+use Rattle.std.specs.List.{AllByRecursion}
 use Rattle.std.proofs.ByRecursion.{All-get_or, All-from_get_or, all_kept_by, All-push, All-weaker, kept_by_passes}
 use Rattle.std.proofs.lemmas.List.Sums.{length-filter, count_by-le-length}
 use Rattle.std.proofs.lemmas.Bool.{false≢true, cases_Bool, both_ways, eq-eqb, eqb-false, ne_eqb, leb-true, leb-false, cond-true, cond-false}
@@ -9,13 +9,13 @@ use Rattle.sources_more.specs.Lists.{first_with, from_on, EachTwo, Once}
 
 module _ {T : Type 0} (R : T → T → Type 0) where
   -- the first item and each other, and each two of the others
-  two_cons : (x : T) (xs : List T) → All (R x) xs → EachTwo R xs → EachTwo R (x ∷ xs)
+  two_cons : (x : T) (xs : List T) → AllByRecursion (R x) xs → EachTwo R xs → EachTwo R (x ∷ xs)
   two_cons x xs heads tails zero zero d h = absurd (omega (arith, h.0))
   two_cons x xs heads tails zero (suc k) d h = All-get_or (R x) xs k d (omega (arith, h.1)) heads
   two_cons x xs heads tails (suc j) zero d h = absurd (omega (arith, h.0))
   two_cons x xs heads tails (suc j) (suc k) d h = tails j k d (omega (arith, h.0), omega (arith, h.1))
 
-  pub two_head : (x : T) (xs : List T) → EachTwo R (x ∷ xs) → All (R x) xs
+  pub two_head : (x : T) (xs : List T) → EachTwo R (x ∷ xs) → AllByRecursion (R x) xs
   two_head x xs each = All-from_get_or (R x) xs x (λ i h. each 0 (suc i) x (omega arith, omega arith))
 
   pub two_tail : (x : T) (xs : List T) → EachTwo R (x ∷ xs) → EachTwo R xs
@@ -32,7 +32,7 @@ module _ {T : Type 0} (R : T → T → Type 0) where
       (cases_Bool (p x))
 
   -- one item more
-  pub two_push : (xs : List T) (y : T) → EachTwo R xs → All (λ x. R x y) xs → EachTwo R (xs ++ y ∷ [])
+  pub two_push : (xs : List T) (y : T) → EachTwo R xs → AllByRecursion (λ x. R x y) xs → EachTwo R (xs ++ y ∷ [])
   two_push [] y each ends = two_cons y [] tt each
   two_push (x ∷ xs) y each ends =
       two_cons x (xs ++ y ∷ []) (All-push (R x) xs y (two_head x xs each) ends.0) (two_push xs y (two_tail x xs each) ends.1)
@@ -59,12 +59,12 @@ module _ {T : Type 0} (number : T → ℕ) where
       ∙ first-at xs (two_tail (λ x y. number x ≡ number y → ⊥) x xs once) k d (omega arith)
 
   -- where no item has the number, there is none
-  pub first_none : (xs : List T) (n : ℕ) → All (λ x. number x ≡ n → ⊥) xs → first_with number xs n ≡ None
+  pub first_none : (xs : List T) (n : ℕ) → AllByRecursion (λ x. number x ≡ n → ⊥) xs → first_with number xs n ≡ None
   first_none [] n none_of = refl
   first_none (x ∷ xs) n none_of = passed x xs n (ne_eqb _ _ none_of.0) ∙ first_none xs n none_of.1
 
   -- and the other way round
-  none_found : (xs : List T) (n : ℕ) → is_some (first_with number xs n) ≡ false → All (λ x. number x ≡ n → ⊥) xs
+  none_found : (xs : List T) (n : ℕ) → is_some (first_with number xs n) ≡ false → AllByRecursion (λ x. number x ≡ n → ⊥) xs
   none_found [] n silent = tt
   none_found (x ∷ xs) n silent =
       ⊎_elim
@@ -72,7 +72,7 @@ module _ {T : Type 0} (number : T → ℕ) where
       (λ (other : eqb (number x) n ≡ false). (eqb-false _ _ other, none_found xs n (ap is_some (sym (passed x xs n other)) ∙ silent)))
       (cases_Bool (eqb (number x) n))
 
-  pub none_with : {V : Type 0} (value : T → V) (xs : List T) (n : ℕ) → is_some (option_map value (first_with number xs n)) ≡ false → All (λ x. number x ≡ n → ⊥) xs
+  pub none_with : {V : Type 0} (value : T → V) (xs : List T) (n : ℕ) → is_some (option_map value (first_with number xs n)) ≡ false → AllByRecursion (λ x. number x ≡ n → ⊥) xs
   none_with value xs n silent = none_found xs n (sym (some_mapped value (first_with number xs n)) ∙ silent)
 
   -- one item more changes nothing of another number
@@ -81,12 +81,12 @@ module _ {T : Type 0} (number : T → ℕ) where
   first_push_other (x ∷ xs) y n other = ap (cond (eqb (number x) n) (Some x)) (first_push_other xs y n other)
 
   -- and is the one with its number, where there was none
-  pub first_push : (xs : List T) (y : T) → All (λ x. number x ≡ number y → ⊥) xs → first_with number (xs ++ y ∷ []) (number y) ≡ Some y
+  pub first_push : (xs : List T) (y : T) → AllByRecursion (λ x. number x ≡ number y → ⊥) xs → first_with number (xs ++ y ∷ []) (number y) ≡ Some y
   first_push [] y none_of = here y [] (number y) (eq-eqb _ _ refl)
   first_push (x ∷ xs) y none_of = passed x (xs ++ y ∷ []) (number y) (ne_eqb _ _ none_of.0) ∙ first_push xs y none_of.1
 
   -- one item more, of a new number, leaves no two with one number
-  pub once_push : (xs : List T) (y : T) → Once number xs → All (λ x. number x ≡ number y → ⊥) xs → Once number (xs ++ y ∷ [])
+  pub once_push : (xs : List T) (y : T) → Once number xs → AllByRecursion (λ x. number x ≡ number y → ⊥) xs → Once number (xs ++ y ∷ [])
   once_push xs y once none_of = two_push (λ x z. number x ≡ number z → ⊥) xs y once none_of
 
   -- nor do those that are kept from a number on

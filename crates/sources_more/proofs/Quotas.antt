@@ -1,6 +1,6 @@
 -- Quotas whose days rise: what holds of one more, of each day, and of those that are forgotten.
 use Rattle.std.proofs.Common.{◌≡◌, ℕ, zero, suc, ◌+◌, ◌-◌, ◌<◌, ◌≤◌, Bool, true, false, cond, ◌||◌, leb, List, [], ◌∷◌, ◌++◌, length, get_or, take, drop, Some, None, fold, filter, Option, sym, refl, ap, ◌∙◌, ⊎_elim, arith}
-use Rattle.std.specs.List.{AllByRecursion as All}
+use Rattle.std.specs.List.{AllByRecursion}
 use Rattle.std.proofs.ByRecursion.{All-from_get_or, All-weaker}
 use Rattle.std.proofs.lemmas.List.{take_all}
 use Rattle.std.proofs.lemmas.List.Sums.{fold_more, fold_push}
@@ -130,7 +130,7 @@ holding_stays (q ∷ qs) d e h =
     (cases_Bool (begun_by d qs))
 
 -- what holds is later than a day before all
-after_all : (qs : List QuotaFrom) (d a : ℕ) → begun_by d qs ≡ true → All (λ p. a < p.from) qs → a < since (holding qs d)
+after_all : (qs : List QuotaFrom) (d a : ℕ) → begun_by d qs ≡ true → AllByRecursion (λ p. a < p.from) qs → a < since (holding qs d)
 after_all [] d a begun later = absurd (false≢true begun)
 after_all (q ∷ qs) d a begun later =
     ⊎_elim
@@ -147,7 +147,7 @@ since-first : (d : ℕ) (q : QuotaFrom) → since (later-told d None q) ≤ q.fr
 since-first d q = cond_both (leb q.from d) (Some q) None (λ o. since o ≤ q.from) (λ _. omega arith) (λ _. omega arith)
 
 -- where all pass, all are kept
-kept_all : {X : Type 0} (p : X → Bool) (xs : List X) → All (λ x. p x ≡ true) xs → filter p xs ≡ xs
+kept_all : {X : Type 0} (p : X → Bool) (xs : List X) → AllByRecursion (λ x. p x ≡ true) xs → filter p xs ≡ xs
 kept_all p [] pass = refl
 kept_all p (x ∷ xs) pass = cond-true _ _ _ pass.0 ∙ ap (λ ys. x ∷ ys) (kept_all p xs pass.1)
 

@@ -1,5 +1,5 @@
 -- What a list in place holds, and what it has of an item's number.
-use Rattle.std.specs.Prelude.{◌≡◌, ℕ, ◌<◌, cond, List, [], ◌∷◌, length, take, Some, None, filter, Option, ◌==◌, ◌≢◌, nat_le, slice_index_or}
+use Rattle.std.specs.Prelude.{ℕ, ◌<◌, cond, List, [], ◌∷◌, length, take, Some, None, filter, Option, ◌==◌, ◌≢◌, nat_le, slice_index_or}
 use Rattle.sources_more.specs.declared.kept.Kept.{Kept}
 
 -- the items, in the order in which they came

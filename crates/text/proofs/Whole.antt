@@ -1,6 +1,6 @@
 -- Fields and lines put together again. Assumes nothing.
 use Rattle.std.proofs.Common.{◌≡◌, ℕ, Bool, true, false, cond, eqb, List, [], ◌∷◌, ◌++◌, sym, refl, ap, ◌∙◌, inl, inr, ⊎_elim}
-use Rattle.std.specs.List.{flat_map, AllByRecursion as All}
+use Rattle.std.specs.List.{flat_map, AllByRecursion}
 use Rattle.std.proofs.lemmas.Bool.{cases_Bool, cond-true, cond-false, eqb-true, eqb-false}
 use Rattle.text.specs.Pieces.{after, before, ends_line, fields, from_byte, led, lines, onto, split, with_commas, CutsMakeTheText, FieldsMakeTheLine, Lacks, LinesMakeTheText, Without}
 use Rattle.text.proofs.Cutting.{fields_step, lines_step}

@@ -1,6 +1,6 @@
 -- The fields of a line and the lines of a text: pieces between one byte and the next. Assumes nothing.
 use Rattle.std.specs.Prelude.{◌≡◌, ℕ, Bool, cond, List, [], ◌∷◌, ◌++◌, Some, None, Option, ◌==◌, ◌≢◌}
-use Rattle.std.specs.List.{flat_map, AllByRecursion as All}
+use Rattle.std.specs.List.{flat_map, AllByRecursion}
 
 -- one byte more at the front of the first piece
 abbrev pub onto : ℕ → List (List ℕ) → List (List ℕ)
@@ -42,7 +42,7 @@ from_byte b (Some u) = b ∷ u
 
 -- no byte of the text is `b`
 abbrev pub Lacks : ℕ → List ℕ → Type 0
-Lacks b t = All (λ c. c ≢ b) t
+Lacks b t = AllByRecursion (λ c. c ≢ b) t
 
 -- the parts of a text that is cut are the text again, and the first has not the byte
 abbrev pub CutsMakeTheText : Type 0
@@ -59,7 +59,7 @@ with_commas (p ∷ ps) = p ++ led 44 ps
 
 -- no piece has the byte
 abbrev pub Without : ℕ → List (List ℕ) → Type 0
-Without b ps = All (Lacks b) ps
+Without b ps = AllByRecursion (Lacks b) ps
 
 -- the fields are the line again, with commas between them, and have none
 abbrev pub FieldsMakeTheLine : Type 0

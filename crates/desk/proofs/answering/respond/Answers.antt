@@ -1,7 +1,6 @@
-use Rattle.std.proofs.Common.{◌≡◌, ℕ, List, ◌++◌, vec_items, sym, ap, ◌∙◌, subst}
+use Rattle.std.proofs.Common.{ℕ, List, ◌++◌, vec_items, ap, subst}
 use Rattle.commands.specs.Answers.{answer_text}
 use Rattle.commands.specs.Rows.{Writes}
-use Rattle.journal.specs.Model.{model}
 use Rattle.desk.specs.Desk.{Desk, records_text}
 use Rattle.desk.proofs.Appending.{written_both}
 use Rattle.desk.proofs.answering.respond.Goals as goal

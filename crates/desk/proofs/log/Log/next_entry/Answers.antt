@@ -1,5 +1,4 @@
-use Rattle.std.proofs.Common.{◌≡◌, length, ap, ◌∙◌, rules}
-use Rattle.std.proofs.lemmas.Bool.{cond-true, eq-eqb, eqb-true}
+use Rattle.std.proofs.Common.{◌≡◌, length, rules}
 use Rattle.desk.proofs.Appending.{empty_after}
 use Rattle.desk.proofs.log.Log.next_entry.Goals as goal
 

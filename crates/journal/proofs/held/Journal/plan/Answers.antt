@@ -1,7 +1,7 @@
-use Rattle.std.proofs.Common.{◌≡◌, ℕ, ◌≤◌, length, sym, refl, ap, ◌∙◌, subst, arith}
+use Rattle.std.proofs.Common.{ℕ, sym, refl, ap, subst, arith}
 use Rattle.std.proofs.lemmas.Result.{err_from_is_err_and}
 use Rattle.parts.specs.declared.types.Parts.{Parts}
-use Rattle.rules.specs.Issue.{percents, with_interval}
+use Rattle.rules.specs.Issue.{percents}
 use Rattle.journal.specs.Model.{model}
 use Rattle.journal.specs.Stages.{FitsIn}
 use Rattle.journal.proofs.Rows.{some_part}

@@ -1,4 +1,4 @@
-use Rattle.std.proofs.Common.{◌≡◌, ◌<◌, min, ◌++◌, map, length, take, drop, sym, ap, ◌∙◌, arith}
+use Rattle.std.proofs.Common.{◌≡◌, ◌<◌, min, ◌++◌, map, length, take, drop, ap, ◌∙◌, arith}
 use Rattle.parts.specs.Cutting.{blank}
 use Rattle.parts.specs.Metering.{part_by}
 use Rattle.parts.proofs.Counting.{take_in_use, drop_in_use, map_front, read_front}

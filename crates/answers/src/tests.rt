@@ -19,7 +19,7 @@ fn answers_are_written(rt: HostRuntime) -> Result<(), Fail> {
     push_end(&mut out, 0)?;
     assert!(rt;
         out.as_slice()
-            == b"1,ok\n2,ok,4294967295\n3,ok,-6278\n4,refused,26\n5,refused,27,3,2\n6,bad\nend,0\n"
+            == b"1,ok\n2,ok,4294967295\n3,ok,-6278\n4,refused,26\n5,refused,27,3,2\n6,bad\nend,0\n".as_slice()
     );
     Ok(())
 }
@@ -39,7 +39,7 @@ fn a_line_is_written(rt: HostRuntime) -> Result<(), Fail> {
     };
     let mut out = Vec::new(rt.alloc());
     push_line(&mut out, &line)?;
-    assert!(rt; out.as_slice() == b"2,7,2020,1,1,T,1000,-6278,1\n");
+    assert!(rt; out.as_slice() == b"2,7,2020,1,1,T,1000,-6278,1\n".as_slice());
     Ok(())
 }
 
@@ -71,7 +71,7 @@ fn an_interval_is_written(rt: HostRuntime) -> Result<(), Fail> {
     push_interval(&mut out, &interval)?;
     assert!(rt;
         out.as_slice()
-            == b"1,7,2020,20200101,00000000,1395000,202001,correction,1,20200101,20200131,450000,60,1000,400\n"
+            == b"1,7,2020,20200101,00000000,1395000,202001,correction,1,20200101,20200131,450000,60,1000,400\n".as_slice()
     );
     Ok(())
 }

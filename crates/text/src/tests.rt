@@ -92,6 +92,6 @@ fn numbers_are_written(rt: HostRuntime) -> Result<(), Fail> {
     push_signed(&mut out, -10)?;
     push_text(&mut out, b",")?;
     push_signed(&mut out, i128::from(i64::MIN))?;
-    assert!(rt; out.as_slice() == b"0,18446744073709551615,-10,-9223372036854775808");
+    assert!(rt; out.as_slice() == b"0,18446744073709551615,-10,-9223372036854775808".as_slice());
     Ok(())
 }

@@ -1,5 +1,5 @@
 -- What two indexes mean keeps the laws of meters.
-use Rattle.std.specs.Prelude.{◌≡◌, ℕ, ◌+◌, ◌-◌, ◌<◌, ◌≤◌, Bool, true, false, cond, [], ◌∷◌, IfOk, Some, None, Ok, Err, Option, Result}
+use Rattle.std.specs.Prelude.{◌≡◌, ℕ, ◌+◌, ◌-◌, ◌^◌, ◌<◌, ◌≤◌, Bool, true, false, cond, [], ◌∷◌, IfOk, Some, None, Ok, Err, Option, Result}
 use Rattle.std.proofs.Common.{sym, ap, subst, ◌∙◌, ⊎_elim, arith}
 use Rattle.std.proofs.lemmas.Bool.{cases_lt}
 use Rattle.std.proofs.lemmas.Bool.Decides.{nat_tests}
@@ -64,6 +64,10 @@ module _ (first last total : ℕ) where
       (cases_lt b a))
       (cases_lt last b))
       (cases_lt a first)
+
+  -- what is told fits 32 bits
+  pub index_small : total ≤ 4000000 → (a b : ℕ) → told (means a b) < 2 ^ 32
+  index_small few a b = omega (arith, index_most a b)
 
   -- the first k days have the share of k
   pub index_first : (k : ℕ) → 0 < k → k ≤ day_count first last → means first (first + k - 1) ≡ Some (upto k)

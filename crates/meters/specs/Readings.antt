@@ -133,6 +133,10 @@ module _ (m : Register) where
       omega arith)
       (cases_lt b a)
 
+  -- what is told fits 32 bits
+  pub register_small : (a b : ℕ) → told (register_kwh (readings m) a b) < 2 ^ 32
+  register_small a b = omega (arith, register_most a b)
+
   -- a day of the year is read just where it has as many marks as hours
   pub read_counted : (d : ℕ) → of_year m.year d ≡ true → is_read (readings m) d ≡ (count_ones (on_day (readings m) d).marks == hours_of d)
   read_counted d inside =

@@ -2,8 +2,7 @@ ghost use Rattle.std.specs.Prelude.{◌≡◌, ◌+◌, ◌-◌, ◌≤◌, IfOk
 ghost use Rattle.amounts.specs.Tables.{first_refused};
 ghost use Rattle.meters.specs.Spans.{day_count};
 ghost use Rattle.meters.specs.Index.{index_means, index_table, known, share, WholePart, FirstDays, OutsideSilent};
-ghost use Rattle.meters.specs.Indexes.{index_additive, index_silent, index_most};
-ghost use Rattle.std.proofs.Common.{arith};
+ghost use Rattle.meters.specs.Indexes.{index_additive, index_silent, index_small};
 
 use super::held::IndexMeter;
 use super::meter::Meter;
@@ -60,7 +59,7 @@ impl Meter for IndexMeter {
 
     ghost silent = { λ m a b. index_silent m.first m.last m.total a b };
 
-    ghost small = { λ m a b. omega (arith, index_most m.first m.last m.total a b, m.small) };
+    ghost small = { λ m. index_small m.first m.last m.total m.small };
 
     fn kwh(&self, first: u16, last: u16) -> Option<u32> {
         if self.first <= first && first <= last && last <= self.last {

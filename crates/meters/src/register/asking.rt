@@ -1,7 +1,6 @@
 ghost use Rattle.std.specs.Prelude.{◌≡◌, ◌≤◌, IfSome, if◌then◌else◌, Some, None};
 ghost use Rattle.meters.specs.Register.{readings, is_read, on_day, register_means};
-ghost use Rattle.meters.specs.Readings.{register_additive, backward, register_most};
-ghost use Rattle.std.proofs.Common.{arith};
+ghost use Rattle.meters.specs.Readings.{register_additive, backward, register_small};
 
 use super::held::Register;
 use crate::meter::Meter;
@@ -29,7 +28,7 @@ impl Meter for Register {
 
     ghost silent = { λ m a b. backward (readings m) a b };
 
-    ghost small = { λ m a b. omega (arith, register_most m a b) };
+    ghost small = { register_small };
 
     fn kwh(&self, first: u16, last: u16) -> Option<u32> {
         if last < first {

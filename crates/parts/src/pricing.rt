@@ -14,6 +14,7 @@ pub struct Priced {
 const MONTHS_BACK: u16 = 24;
 
 // The latest priced month of the 24 before the month of issue.
+#[tactic(auto, unfolding(crate::specs::Pricing::price_month_of))]
 pub fn latest_price<S: Current>(source: &S, issued: u16) -> Option<Priced>
     ensures { result ≡ price_month_of (S.price source.now) issued }
 {

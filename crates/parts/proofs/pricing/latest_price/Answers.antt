@@ -1,5 +1,5 @@
-use Rattle.std.proofs.Common.{◌≡◌, ◌-◌, sym, refl, ap, ◌∙◌, arith, rules}
-use Rattle.parts.specs.Pricing.{latest_priced, price_month_of}
+use Rattle.std.proofs.Common.{◌≡◌, ◌-◌, sym, ap, ◌∙◌, arith, rules}
+use Rattle.parts.specs.Pricing.{latest_priced}
 use Rattle.parts.proofs.Monthly.{first-month, told-month, silent-month}
 use Rattle.parts.proofs.pricing.latest_price.Goals as goal
 
@@ -14,10 +14,6 @@ returns-in-Some g c =
 pub loop-asked-preserved : goal.loop-asked-preserved
 loop-asked-preserved g c =
     sym (silent-month (g.S.Current.price c.args.source.now) c.loop-asked.month c.loop-asked.asked (omega arith) (omega arith) (search rules)) ∙ c.loop-asked.invariant
-
-pub loop-asked-init : goal.loop-asked-init
-unfolding price_month_of
-loop-asked-init g c = refl
 
 pub returns : goal.returns
 returns g c =

@@ -7,8 +7,8 @@ pub fn issue_laws() -> u8
     0
 }
 
-// An issue that is taken writes a line for each of one to four parts, keeps the year's kWh within bounds, and adds its
-// worth to one balance; a day is shared exactly where some day lies in both.
+// No silence passes for a quota of 0; an issue that is taken writes a line for each of one to four parts, keeps the year's
+// kWh within bounds, and adds its worth to one balance; a day is shared exactly where some day lies in both.
 pub fn taken_laws() -> u8
     ensures { TakenLaws }
 {

@@ -7,7 +7,7 @@ ghost use Rattle.notice_text.specs.Lines.{next_text, close, text_of};
 use text::Fields;
 
 #[derive(Clone, Copy)]
-pub struct Line<'a> {
+pub(crate) struct Line<'a> {
     fields: Fields<'a>,
     // Whether the line has its byte 10.
     ended: bool,
@@ -15,7 +15,7 @@ pub struct Line<'a> {
 
 impl<'a> Line<'a> {
     // All fields of a line.
-    pub fn of(text: &'a [u8], ended: bool) -> Line<'a>
+    pub(crate) fn of(text: &'a [u8], ended: bool) -> Line<'a>
         ensures fields { left result.fields ≡ fields text.now }
         ensures ended { result.ended ≡ ended }
     {
@@ -26,7 +26,7 @@ impl<'a> Line<'a> {
     }
 
     // The next field, which is field `n`.
-    pub fn next(&mut self, n: u32) -> Result<&'a [u8], u32>
+    pub(crate) fn next(&mut self, n: u32) -> Result<&'a [u8], u32>
         requires { 1 ≤ n }
         ensures value { text_of result ≡ next_text self.old.ended n (left self.old.fields) }
         ensures after { left self.new.fields ≡ after_next (left self.old.fields) }
@@ -39,7 +39,7 @@ impl<'a> Line<'a> {
     }
 
     // The end of the line, before any field `n`.
-    pub fn close(self, n: u32) -> Result<(), u32>
+    pub(crate) fn close(self, n: u32) -> Result<(), u32>
         requires { 1 ≤ n }
         ensures { result ≡ close self.entry.ended n (left self.entry.fields) tt }
     {

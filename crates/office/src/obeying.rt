@@ -1,4 +1,4 @@
-ghost use Rattle.std.specs.Prelude.{◌≡◌, IfOk, OnOk};
+ghost use Rattle.std.specs.Prelude.{◌≡◌, IfOk, OnErr, OnOk};
 ghost use Rattle.rules.specs.Books.{Books};
 ghost use Rattle.journal.specs.Model.{model};
 ghost use Rattle.office.specs.Desk.{after_notice, desk_of, issue_by, issue_with, new_desk, notice_answer, obeyed};
@@ -117,10 +117,12 @@ pub fn obey(journal: &mut Journal<'_>, office: &mut Office, command: Command) ->
     }
 }
 
-// Reads a notice, which is the source from here on, faulty or not. The answer is its check's.
+// Reads a notice, which is the source from here on, faulty or not. The answer is its check's. Without the memory for
+// it the office stays.
 pub fn take_notice(office: &mut Office, heap: Global, text: &[u8]) -> Result<Answer, AllocError>
     ensures answer { IfOk result (λ answer. answer ≡ notice_answer text.now) }
     ensures after { OnOk result ((books : Books) → desk_of books office.new ≡ after_notice text.now (desk_of books office.old)) }
+    ensures unread { OnErr result ((books : Books) → desk_of books office.new ≡ desk_of books office.old) }
 {
     let notice = Notice::read(heap, text)?;
     let answer = plain_answer(notice.check());

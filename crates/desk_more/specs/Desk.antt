@@ -1,11 +1,11 @@
 -- What is written for a command.
-use Rattle.std.specs.Prelude.{◌≡◌, ℕ, ◌⊎◌, List, [], ◌++◌}
+use Rattle.std.specs.Prelude.{ℕ, List, [], ◌++◌}
 use Rattle.std.specs.List.{flat_map}
 use Rattle.rules.specs.Books.{Books}
 use Rattle.answers.specs.Answers.{answer_text, interval_text, line_text}
 use Rattle.commands_more.specs.declared.command.Command.{Command}
 use Rattle.commands_more.specs.declared.command.Command.TheVariants.{Setup, Enrol, Quota, Price, Final, Forget, Board, Notice, Register, Hour, Issue, Balance, Lines, Intervals}
-use Rattle.office.specs.Desk.{Desk, Obeyed, after_notice}
+use Rattle.office.specs.Desk.{Obeyed}
 
 -- the records that follow the answer to `lines` and to `intervals`
 abbrev pub records_text : Command → Books → List ℕ
@@ -27,7 +27,3 @@ records_text Intervals j = flat_map interval_text j.intervals
 -- all that is written for the command in a line of the log, given its answer and the desk after it
 abbrev pub response : ℕ → Command → Obeyed → List ℕ
 response line c o = answer_text line o.0 ++ records_text c o.1.books
-
--- where memory lacks, the desk is as it was, or has the notice as its source
-abbrev pub LeavesOrTakes : List ℕ → Desk → Desk → Type 0
-LeavesOrTakes text before after = (after ≡ before) ⊎ (after ≡ after_notice text before)

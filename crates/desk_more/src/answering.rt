@@ -1,11 +1,11 @@
-ghost use Rattle.std.specs.Prelude.{◌≡◌, OnErr, OnOk};
+ghost use Rattle.std.specs.Prelude.{◌≡◌, OnOk};
 ghost use Rattle.std.specs.List.{flat_map};
 ghost use Rattle.journal.specs.Model.{model};
 ghost use Rattle.answers.specs.Answers.{answer_text, interval_text, line_text};
 ghost use Rattle.answers.specs.Rows.{Writes};
 ghost use Rattle.rules.specs.Books.{Books};
-ghost use Rattle.office.specs.Desk.{after_notice, desk_of, notice_answer, obeyed};
-ghost use Rattle.desk_more.specs.Desk.{records_text, response, LeavesOrTakes};
+ghost use Rattle.office.specs.Desk.{after_notice, by_source, desk_of, notice_answer, obeyed};
+ghost use Rattle.desk_more.specs.Desk.{records_text, response};
 
 use answers::{push_answer, push_interval, push_line};
 use commands_more::Command;
@@ -54,7 +54,7 @@ fn push_records(
 }
 
 // Reads a notice, which is the source from here on, and appends the answer to its line. Without the memory for both
-// the office stays, or has the notice.
+// all but the source stays.
 pub fn respond_to_notice(
     out: &mut Vec<u8>,
     office: &mut Office,
@@ -64,7 +64,7 @@ pub fn respond_to_notice(
 ) -> Result<(), AllocError>
     ensures text { Writes result out.old.items out.new.items (answer_text line (notice_answer text.now)) }
     ensures after { OnOk result ((books : Books) → desk_of books office.new ≡ after_notice text.now (desk_of books office.old)) }
-    ensures failed { OnErr result ((books : Books) → LeavesOrTakes text.now (desk_of books office.old) (desk_of books office.new)) }
+    ensures rest { (books : Books) → by_source None (desk_of books office.new) ≡ by_source None (desk_of books office.old) }
 {
     let answer = take_notice(office, heap, text)?;
     push_answer(out, line, answer)

@@ -1,7 +1,7 @@
 ghost use Rattle.std.specs.Prelude.{◌≡◌, IfOk, OnErr, OnOk};
 ghost use Rattle.rules.specs.Books.{Books};
 ghost use Rattle.journal.specs.Model.{model};
-ghost use Rattle.office.specs.Desk.{after_notice, desk_of, issue_by, issue_with, new_desk, notice_answer, obeyed};
+ghost use Rattle.office.specs.Desk.{after_notice, by_source, desk_of, issue_by, issue_with, new_desk, notice_answer, obeyed};
 
 use super::office::Office;
 use super::plain::{number_answer, plain_answer};
@@ -123,6 +123,7 @@ pub fn take_notice(office: &mut Office, heap: Global, text: &[u8]) -> Result<Ans
     ensures answer { IfOk result (λ answer. answer ≡ notice_answer text.now) }
     ensures after { OnOk result ((books : Books) → desk_of books office.new ≡ after_notice text.now (desk_of books office.old)) }
     ensures unread { OnErr result ((books : Books) → desk_of books office.new ≡ desk_of books office.old) }
+    ensures rest { (books : Books) → by_source None (desk_of books office.new) ≡ by_source None (desk_of books office.old) }
 {
     let notice = Notice::read(heap, text)?;
     let answer = plain_answer(notice.check());

@@ -3,23 +3,17 @@ ghost use Rattle.amounts.specs.Laws.{Laws};
 ghost use Rattle.amounts.specs.Tables.{DecideFollows, SmallestFirst};
 
 // What rounding, values, exemptions and mean prices come to.
-pub fn amounts_laws() -> u8
+pub fn amounts_laws()
     ensures { Laws }
-{
-    0
-}
+{}
 
 // Whatever a call answers, the first refusal of a table whose numbers rise has the smallest number.
-pub fn tables_give_the_smallest<T: Drop>(answer: T) -> u8
+pub fn tables_give_the_smallest<T: Drop>(answer: T)
     ensures { SmallestFirst answer }
-{
-    0
-}
+{}
 
 // Whatever a call answers, its outcome is the first refusal of its table with the state as it was, or the answer with
 // the state after.
-pub fn outcomes_follow_tables<A: Drop, S: Drop>(before: S, answer: A, after: S) -> u8
+pub fn outcomes_follow_tables<A: Drop, S: Drop>(before: S, answer: A, after: S)
     ensures { DecideFollows before answer after }
-{
-    0
-}
+{}

@@ -1,7 +1,7 @@
 ghost use Rattle.std.specs.Prelude.{◌≡◌};
 ghost use Rattle.amounts.specs.Refusals.{number, fault};
 
-// Why a call was refused. A refused call changes nothing.
+// Why a call was refused. A refused call changes nothing. It is answered by its number, so it has no text of its own.
 #[derive(Clone, Copy, PartialEq, Debug)]
 pub enum Refusal {
     NoPlace,
@@ -34,7 +34,7 @@ pub enum Refusal {
 }
 
 impl Refusal {
-    // The refusal's number in the refusal table.
+    // The refusal's number in the refusal table. (An enum with fields has no `as u8`, and a `From` would be this match.)
     pub fn number(self) -> u8
         ensures { result ≡ number self }
     {

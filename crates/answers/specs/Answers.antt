@@ -1,8 +1,9 @@
 -- The answers to commands, and the records that some are followed by. Assumes nothing.
-use Rattle.std.specs.Prelude.{ℕ, List, [], ◌∷◌, ◌++◌, Some, None, codes, decimal, Option}
+use Rattle.std.specs.Prelude.{ℕ, List, [], ◌∷◌, ◌++◌, Some, None, Ok, Err, codes, decimal, Option, Result}
 use Rattle.std.specs.Fmt.{signed_decimal}
 use Rattle.std.specs.List.{flat_map}
 use Rattle.amounts.specs.Refusals.{fault, number}
+use Rattle.amounts.specs.declared.refusal.Refusal.{Refusal}
 use Rattle.parts.specs.Metering.{used}
 use Rattle.parts.specs.declared.types.Part.{Part}
 use Rattle.rules.specs.declared.types.Interval.{Interval}
@@ -16,13 +17,27 @@ abbrev pub fault_fields : Option (ℕ × ℕ) → List (List ℕ)
 fault_fields None = []
 fault_fields (Some p) = decimal p.0 ∷ decimal p.1 ∷ []
 
--- the answer to the command in line n: `n,ok`, `n,ok,VALUE`, `n,refused,R`, `n,refused,27,LINE,FIELD` or `n,bad`
+-- what an answer says: `ok`, `ok,VALUE`, `refused,R`, `refused,27,LINE,FIELD` or `bad`
+abbrev pub answer_words : Answer → List (List ℕ)
+answer_words Taken = codes "ok" ∷ []
+answer_words (Number v) = codes "ok" ∷ decimal v ∷ []
+answer_words (Amount v) = codes "ok" ∷ signed_decimal v ∷ []
+answer_words (Refused why) = codes "refused" ∷ decimal (number why) ∷ fault_fields (fault why)
+answer_words Bad = codes "bad" ∷ []
+
+-- the answer to the command in line n, behind its number
 abbrev pub answer_text : ℕ → Answer → List ℕ
-answer_text n Taken = row (decimal n ∷ codes "ok" ∷ [])
-answer_text n (Number v) = row (decimal n ∷ codes "ok" ∷ decimal v ∷ [])
-answer_text n (Amount v) = row (decimal n ∷ codes "ok" ∷ signed_decimal v ∷ [])
-answer_text n (Refused why) = row (decimal n ∷ codes "refused" ∷ decimal (number why) ∷ fault_fields (fault why))
-answer_text n Bad = row (decimal n ∷ codes "bad" ∷ [])
+answer_text n a = row (decimal n ∷ answer_words a)
+
+-- a call without a result: taken, or its refusal
+abbrev pub plainly : Result (Unit {0}) Refusal → Answer
+plainly (Ok u) = Taken
+plainly (Err e) = Refused e
+
+-- a call that gives a number
+abbrev pub numbered : Result ℕ Refusal → Answer
+numbered (Ok n) = Number n
+numbered (Err e) = Refused e
 
 -- a line: number, place, year, interval, part, kind, charged kWh, value and the line taken back
 abbrev pub line_text : Line → List ℕ

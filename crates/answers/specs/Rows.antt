@@ -1,6 +1,5 @@
 -- Rows of fields, as answers and records are written. Assumes nothing.
-use Rattle.std.specs.Prelude.{◌≡◌, ℕ, cond, List, [], ◌∷◌, ◌++◌, replicate, codes, decimal, Result, OnOk}
-use Rattle.std.specs.Fmt.{signed_decimal}
+use Rattle.std.specs.Prelude.{◌≡◌, ℕ, cond, List, [], ◌∷◌, ◌++◌, replicate, codes, Result, OnOk}
 use Rattle.calendar.specs.Dates.{date_text, month_text}
 use Rattle.calendar.specs.Days.{is_day, is_month}
 use Rattle.rules.specs.declared.types.Kind.{Kind}
@@ -8,10 +7,6 @@ use Rattle.rules.specs.declared.types.Kind.TheVariants.{Energy, Settlement, Take
 use Rattle.rules.specs.declared.types.Status.{Status}
 use Rattle.rules.specs.declared.types.Status.TheVariants.{Standing, UnderCorrection, Settled}
 use Rattle.text.specs.Pieces.{with_commas}
-use Rattle.answers.specs.declared.field.Field.{Field}
-use Rattle.answers.specs.declared.field.Field.TheVariants.{Number, Amount, Day, Month, KindOf, StatusOf, WordOf}
-use Rattle.answers.specs.declared.field.Word.{Word}
-use Rattle.answers.specs.declared.field.Word.TheVariants.{Taken, Refused, Bad, End}
 
 -- a row: its fields parted by commas, and byte 10
 abbrev pub row : List (List ℕ) → List ℕ
@@ -40,20 +35,3 @@ abbrev pub status_word : Status → List ℕ
 status_word Standing = codes "standing"
 status_word UnderCorrection = codes "correction"
 status_word Settled = codes "settled"
-
--- how a word is written
-abbrev pub word_text : Word → List ℕ
-word_text Taken = codes "ok"
-word_text Refused = codes "refused"
-word_text Bad = codes "bad"
-word_text End = codes "end"
-
--- how a field is written
-abbrev pub field_text : Field → List ℕ
-field_text (Number n) = decimal n
-field_text (Amount a) = signed_decimal a
-field_text (Day d) = date_digits d
-field_text (Month m) = month_digits m
-field_text (KindOf k) = kind_letter k
-field_text (StatusOf s) = status_word s
-field_text (WordOf w) = word_text w

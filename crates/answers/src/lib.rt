@@ -2,8 +2,7 @@
 #![tactic(auto)]
 
 mod answer;
-mod field;
-mod row;
+mod shown;
 mod writing;
 
 pub use answer::Answer;

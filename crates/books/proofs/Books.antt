@@ -1,14 +1,13 @@
--- What every book keeps to.
-use Rattle.std.proofs.Common.{◌≡◌, ◌+◌, ◌≤◌, Bool, true, false, cond, List, [], ◌∷◌, ◌++◌, length, ap, ◌∙◌, arith}
-use Rattle.std.proofs.lemmas.List.{length-take, length_push}
-use Rattle.books.specs.declared.book.Book.{Book}
-use Rattle.books.specs.Records.{records, room}
+-- A change among the first records of the storage.
+use Rattle.std.proofs.Common.{◌≡◌, ℕ, zero, suc, List, [], ◌∷◌, take, set, refl, ap}
+use Rattle.std.proofs.lemmas.List.{length-set}
+use Rattle.std.proofs.lemmas.Option.{gets}
 
--- it holds no more records than it has room for
-pub records_fit : {R : Type 0} (b : Book R) → length (records b) ≤ room b
-records_fit b = let long = length-take b.count b.storage.now in omega arith
+pub take_of_set : {R : Type 0} (n : ℕ) (rs : List R) (i : ℕ) (r : R) → take n (set rs i r) ≡ set (take n rs) i r
+take_of_set zero [] i r = refl
+take_of_set zero (x ∷ xs) i r = refl
+take_of_set (suc n) [] i r = refl
+take_of_set (suc n) (x ∷ xs) zero r = refl
+take_of_set (suc n) (x ∷ xs) (suc i) r = ap (λ ys. x ∷ ys) (take_of_set n xs i r)
 
--- one record entered is one more, and one refused is none
-pub length_entered : {R : Type 0} (r : Bool) (rs ws : List R) (it : R) → ws ≡ cond r (rs ++ it ∷ []) rs → length ws ≡ cond r (length rs + 1) (length rs)
-length_entered true rs ws it e = ap length e ∙ length_push rs it
-length_entered false rs ws it e = ap length e
+pub ruleset replacing = (gets, take_of_set, length-set)

@@ -1,3 +1,2 @@
 pub mod Books
-pub mod Places
 pub mod Rolls

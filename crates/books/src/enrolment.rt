@@ -17,7 +17,7 @@ impl Enrolment {
     pub fn percent_on(&self, day: u16) -> u8
         ensures { result ≡ percent_on self.now day }
     {
-        if self.first <= day && day <= self.last {
+        if (self.first..=self.last).contains(&day) {
             self.percent
         } else {
             0

@@ -8,7 +8,7 @@ mod roll;
 #[cfg(test)]
 mod tests;
 
-pub use book::Book;
+pub use book::{Book, Full};
 pub use dated::Dated;
 pub use enrolment::{Enrolment, Place};
 pub use roll::Roll;

@@ -8,7 +8,7 @@ use super::enrolment::Enrolment;
 // How many places there are.
 const PLACES: usize = 250;
 
-// What each place is enrolled with, place 1 first.
+// What each place is enrolled with, place 1 first. A table of fixed size: no heap.
 #[derive(Drop)]
 pub struct Roll {
     table: [Option<Enrolment>; PLACES],

@@ -1,4 +1,4 @@
-use super::{Book, Dated, Enrolment, Roll};
+use super::{Book, Dated, Enrolment, Full, Roll};
 use amounts::Refusal;
 
 #[derive(Clone, Copy, PartialEq, Debug)]
@@ -33,10 +33,10 @@ fn garbage_is_no_record(rt: HostRuntime) {
 fn a_full_book_refuses_and_keeps(rt: HostRuntime) {
     let mut storage = [dated(2019, 9); 3];
     let mut book = Book::new(&mut storage, 2);
-    assert!(rt; book.enter(dated(2020, 1)));
-    assert!(rt; book.enter(dated(2021, 2)));
+    assert_eq!(rt; book.enter(dated(2020, 1)), Ok(()));
+    assert_eq!(rt; book.enter(dated(2021, 2)), Ok(()));
     assert!(rt; book.is_full());
-    assert_eq!(rt; book.enter(dated(2022, 3)), false);
+    assert_eq!(rt; book.enter(dated(2022, 3)), Err(Full));
     assert_eq!(rt; book.len(), 2);
     assert_eq!(rt; book.free(), 0);
     assert_eq!(rt; book.at(1), Some(dated(2021, 2)));
@@ -47,10 +47,10 @@ fn a_full_book_refuses_and_keeps(rt: HostRuntime) {
 fn strike_keeps_the_order(rt: HostRuntime) {
     let mut storage = [dated(2019, 9); 4];
     let mut book = Book::new(&mut storage, 4);
-    assert!(rt; book.enter(dated(2020, 1)));
-    assert!(rt; book.enter(dated(2021, 2)));
-    assert!(rt; book.enter(dated(2020, 3)));
-    assert!(rt; book.enter(dated(2022, 4)));
+    assert_eq!(rt; book.enter(dated(2020, 1)), Ok(()));
+    assert_eq!(rt; book.enter(dated(2021, 2)), Ok(()));
+    assert_eq!(rt; book.enter(dated(2020, 3)), Ok(()));
+    assert_eq!(rt; book.enter(dated(2022, 4)), Ok(()));
     assert_eq!(rt; book.find(2020, 0), Some(0));
     assert_eq!(rt; book.find(2020, 1), Some(2));
     assert_eq!(rt; book.find(2020, 3), None);
@@ -64,14 +64,11 @@ fn strike_keeps_the_order(rt: HostRuntime) {
 fn records_by_position(rt: HostRuntime) {
     let mut storage = [dated(2019, 9); 4];
     let mut book = Book::new(&mut storage, 4);
-    assert!(rt; book.enter(dated(2020, 1)));
-    let mut lent = dated(2030, 7);
-    assert_eq!(rt; book.copy_at(1, &mut lent), false);
-    assert_eq!(rt; lent, dated(2030, 7));
-    assert!(rt; book.copy_at(0, &mut lent));
-    assert_eq!(rt; lent, dated(2020, 1));
-    assert_eq!(rt; book.replace(1, dated(2021, 2)), false);
-    assert!(rt; book.replace(0, dated(2021, 2)));
+    assert_eq!(rt; book.enter(dated(2020, 1)), Ok(()));
+    assert_eq!(rt; book.at(1), None);
+    assert_eq!(rt; book.at(0), Some(dated(2020, 1)));
+    assert_eq!(rt; book.replace(1, dated(2021, 2)), None);
+    assert_eq!(rt; book.replace(0, dated(2021, 2)), Some(dated(2020, 1)));
     assert_eq!(rt; book.len(), 1);
     assert_eq!(rt; book.at(0), Some(dated(2021, 2)));
 }

@@ -1,7 +1,7 @@
 -- Digits: the steps of writing and of reading them, that what is written is read, and that nothing else is.
 use Rattle.std.proofs.Common.{◌≡◌, ℕ, zero, suc, ◌+◌, ◌-◌, ◌*◌, ◌/◌, ◌%◌, ◌^◌, ◌<◌, ◌≤◌, Bool, true, false, cond, eqb, List, [], ◌∷◌, ◌++◌, length, get_or, drop, set, Some, None, Option, sym, refl, ap, ◌∙◌, subst, append_assoc, append-nil, mul_assoc, pow-suc, zero-mul, add-one, arith, length-append}
 use native.Mathlib.Nat.{pow-zero, pow-le-pow_right}
-use Rattle.std.specs.Char.{is_ascii_digit}
+use Rattle.std.specs.Char.{is_ascii_digit, digit_value}
 use Rattle.std.proofs.lemmas.List.{at_drop_more, drop-set}
 use Rattle.std.proofs.lemmas.Bool.{cond-true, cond-false, eq-eqb, eqb-true}
 use Rattle.std.proofs.lemmas.Bool.Decides.{nat_tests}
@@ -22,32 +22,33 @@ write_step text p r low high =
     let same : suc (p - 1) ≡ p = omega arith in
     subst (λ (n : ℕ). digits q (r / 10) ++ drop q (set text q (48 + r % 10)) ≡ digits n r ++ drop n text) same (write_before text q r (omega arith))
 
+-- the value of a digit, and of what is none
+value_of_digit : (c : ℕ) → digit_value c < 10 → (is_ascii_digit c ≡ true) × (digit_value c ≡ c - 48)
+value_of_digit c h = grind (arith, nat_tests)
+
+no_value : (c : ℕ) → 10 ≤ digit_value c → is_ascii_digit c ≡ false
+no_value c h = grind (arith, nat_tests)
+
 -- one byte of what is left to read, by the ways
 module _ (n : ℕ) (text : List ℕ) (i : ℕ) (in' : i < length text) where
-  pub no_digit : is_ascii_digit (get_or text i 0) ≡ false → number_on n (drop i text) ≡ None
-  no_digit e = at_drop_more (number_on n) text i 0 in' ∙ cond-false _ _ _ e
+  pub no_digit : 10 ≤ digit_value (get_or text i 0) → number_on n (drop i text) ≡ None
+  no_digit h = at_drop_more (number_on n) text i 0 in' ∙ cond-false _ _ _ (no_value (get_or text i 0) h)
 
-  pub digit_read : is_ascii_digit (get_or text i 0) ≡ true → number_on n (drop i text) ≡ number_on (n * 10 + (get_or text i 0 - 48)) (drop (i + 1) text)
-  digit_read e = at_drop_more (number_on n) text i 0 in' ∙ cond-true _ _ _ e
+  pub digit_read : digit_value (get_or text i 0) < 10 → number_on n (drop i text) ≡ number_on (n * 10 + digit_value (get_or text i 0)) (drop (i + 1) text)
+  digit_read h =
+      let p = value_of_digit (get_or text i 0) h in
+      at_drop_more (number_on n) text i 0 in' ∙ cond-true _ _ _ p.0 ∙ ap (λ m. number_on (n * 10 + m) (drop (i + 1) text)) (sym p.1)
 
 -- a number of few digits has room for one more
-pub few : (n i : ℕ) → n < 10 ^ i → i < 8 → n < 10000000
-few n i h short =
-    let le : 10 ^ i ≤ 10 ^ 7 = let i≤7 : i ≤ 7 = omega arith in pow-le-pow_right {n = 10} (omega arith) i≤7 in
-    omega arith
+pub few : (i : ℕ) → i < 8 → 10 ^ i ≤ 10000000
+few i short = let i≤7 : i ≤ 7 = omega arith in pow-le-pow_right {n = 10} (omega arith) i≤7
 
 pub one_more : (n d i : ℕ) → n < 10 ^ i → d < 10 → n * 10 + d < 10 ^ (i + 1)
 one_more n d i h digit =
     let power : 10 ^ (i + 1) ≡ 10 ^ i * 10 = ap (λ k. 10 ^ k) (add-one i) ∙ pow-suc 10 i in
     omega arith
 
-pub digit_below : (c : ℕ) → is_ascii_digit c ≡ true → c - 48 < 10
-digit_below c e = grind (arith, nat_tests)
-
 -- what is written is read again
-asciiDigit_is : (d : ℕ) → d < 10 → is_ascii_digit (48 + d) ≡ true
-asciiDigit_is d h = grind (arith, nat_tests)
-
 pub read_on : (k n a : ℕ) (more : List ℕ) → n < 10 ^ k → number_on a (digits k n ++ more) ≡ number_on (a * 10 ^ k + n) more
 read_on zero n a more h =
     let one = pow-zero 10 in
@@ -60,7 +61,8 @@ read_on (suc k) n a more h =
     let small : q < 10 ^ k = omega arith in
     let front : (digits k q ++ (c ∷ [])) ++ more ≡ digits k q ++ (c ∷ more) = append_assoc (digits k q) (c ∷ []) more in
     let first : number_on a (digits k q ++ (c ∷ more)) ≡ number_on (a * 10 ^ k + q) (c ∷ more) = read_on k q a (c ∷ more) small in
-    let last : number_on (a * 10 ^ k + q) (c ∷ more) ≡ number_on ((a * 10 ^ k + q) * 10 + (c - 48)) more = cond-true _ _ _ (asciiDigit_is (n % 10) (omega arith)) in
+    let digit : is_ascii_digit c ≡ true = grind (arith, nat_tests) in
+    let last : number_on (a * 10 ^ k + q) (c ∷ more) ≡ number_on ((a * 10 ^ k + q) * 10 + (c - 48)) more = cond-true _ _ _ digit in
     let whole : a * 10 ^ suc k ≡ a * 10 ^ k * 10 = ap (λ x. a * x) power ∙ sym (mul_assoc a (10 ^ k) 10) in
     let same : (a * 10 ^ k + q) * 10 + (c - 48) ≡ a * 10 ^ suc k + n = omega arith in
     ap (number_on a) front ∙ first ∙ last ∙ ap (λ m. number_on m more) same
@@ -80,10 +82,7 @@ number_in-digits k n h =
 -- nothing but what is written is read: a number that was read has the digits of the text
 some_chosen : (b : Bool) (o : Option ℕ) (n : ℕ) → cond b o None ≡ Some n → (b ≡ true) × (o ≡ Some n)
 some_chosen true o n e = (refl, e)
-some_chosen false o n e = let z : ◌≡◌ {A = ℕ} 0 1 = cc in absurd (omega arith)
-
-digit_from : (c : ℕ) → is_ascii_digit c ≡ true → 48 ≤ c
-digit_from c e = grind (arith, nat_tests)
+some_chosen false o n e = absurd (cc)
 
 digits_read : (text : List ℕ) (a j n : ℕ) → number_on a text ≡ Some n → digits (j + length text) n ≡ digits j a ++ text
 digits_read [] a j n e =
@@ -94,8 +93,9 @@ digits_read [] a j n e =
 digits_read (c ∷ cs) a j n e =
     let v = a * 10 + (c - 48) in
     let p : (is_ascii_digit c ≡ true) × (number_on v cs ≡ Some n) = some_chosen (is_ascii_digit c) (number_on v cs) n e in
-    let below = digit_below c p.0 in
-    let from = digit_from c p.0 in
+    let is = p.0 in
+    let from : 48 ≤ c = grind (arith, nat_tests) in
+    let below : c - 48 < 10 = grind (arith, nat_tests) in
     let front : v / 10 ≡ a = omega arith in
     let last : 48 + v % 10 ≡ c = omega arith in
     let more : digits (suc j + length cs) n ≡ (digits j (v / 10) ++ ((48 + v % 10) ∷ [])) ++ cs = digits_read cs v (suc j) n p.1 in

@@ -1,8 +1,8 @@
 -- The months of one year: what the even spread of the code gives is what the lengths of the months add up to.
-use Rattle.std.proofs.Common.{◌≡◌, ℕ, ◌+◌, ◌-◌, ◌*◌, ◌/◌, ◌<◌, ◌≤◌, Bool, true, false, cond, ◌&&◌, eqb, ltb, leb, sym, refl, subst, arith}
+use Rattle.std.proofs.Common.{◌≡◌, ℕ, ◌+◌, ◌-◌, ◌*◌, ◌/◌, ◌<◌, ◌≤◌, Bool, true, false, cond, ◌&&◌, eqb, ltb, leb, refl}
 use Rattle.std.proofs.lemmas.Bool.{eqb-true, leb-true, ltb-true, and_parts}
 use Rattle.calendar.specs.Days.{month_lengths, length_in_year, days_before, month_at}
-use Rattle.calendar.proofs.Every.{every, at}
+use Rattle.calendar.proofs.Every.{every, at, every_month, at_month}
 
 -- the days before month k of a year, by the spread
 abbrev pub spread : Bool → ℕ → ℕ
@@ -13,47 +13,53 @@ abbrev pub spread_month : Bool → ℕ → ℕ
 spread_month l p = (12 * (p + cond (ltb (p + cond l 1 2) 61) 0 (cond l 1 2)) + 373) / 367
 
 abbrev spread_test : Bool → ℕ → Bool
-spread_test l j = eqb (spread l (j + 1)) (days_before l (j + 1))
+spread_test l k = eqb (days_before l k) (spread l k)
 
-spread_all : (l : Bool) → every (spread_test l) 12 ≡ true
+spread_all : (l : Bool) → every_month (spread_test l) ≡ true
 unfolding days_before month_lengths
 spread_all true = refl
 spread_all false = refl
 
-pub spread_is : (l : Bool) (k : ℕ) → 1 ≤ k → k ≤ 12 → spread l k ≡ days_before l k
-spread_is l k low high =
-    let same : k ≡ (k - 1) + 1 = omega arith in
-    let test : spread_test l (k - 1) ≡ true = at (spread_test l) 12 (spread_all l) (k - 1) (omega arith) in
-    subst (λ (j : ℕ). spread l j ≡ days_before l j) (sym same) (eqb-true (spread l ((k - 1) + 1)) (days_before l ((k - 1) + 1)) test)
+pub spread_is : (l : Bool) (k : ℕ) → 1 ≤ k → k ≤ 12 → days_before l k ≡ spread l k
+spread_is l k low high = eqb-true (days_before l k) (spread l k) (at_month (spread_test l) (spread_all l) k low high)
 
 abbrev month_test : Bool → ℕ → Bool
-month_test l p = eqb (spread_month l p) (month_at (month_lengths l) p)
+month_test l p = eqb (month_at (month_lengths l) p) (spread_month l p)
 
 month_all : (l : Bool) → every (month_test l) (cond l 366 365) ≡ true
 unfolding month_lengths
 month_all true = refl
 month_all false = refl
 
-pub spread_month_is : (l : Bool) (p : ℕ) → p < cond l 366 365 → spread_month l p ≡ month_at (month_lengths l) p
-spread_month_is l p h = eqb-true (spread_month l p) (month_at (month_lengths l) p) (at (month_test l) (cond l 366 365) (month_all l) p h)
+pub spread_month_is : (l : Bool) (p : ℕ) → p < cond l 366 365 → month_at (month_lengths l) p ≡ spread_month l p
+spread_month_is l p h = eqb-true (month_at (month_lengths l) p) (spread_month l p) (at (month_test l) (cond l 366 365) (month_all l) p h)
+
+-- the length of month k of a year, by the code
+abbrev pub coded_length : Bool → ℕ → ℕ
+coded_length l k = cond (eqb k 2) (30 - cond l 1 2) (cond (eqb k 4) 30 (cond (eqb k 6) 30 (cond (eqb k 9) 30 (cond (eqb k 11) 30 31))))
+
+abbrev length_test : Bool → ℕ → Bool
+length_test l k = eqb (length_in_year l k) (coded_length l k)
+
+length_all : (l : Bool) → every_month (length_test l) ≡ true
+unfolding length_in_year month_lengths
+length_all true = refl
+length_all false = refl
+
+pub length_is : (l : Bool) (k : ℕ) → 1 ≤ k → k ≤ 12 → length_in_year l k ≡ coded_length l k
+length_is l k low high = eqb-true (length_in_year l k) (coded_length l k) (at_month (length_test l) (length_all l) k low high)
 
 -- each month begins its length after the one before; what follows December is the next year
 abbrev next_test : Bool → ℕ → Bool
-next_test l j = eqb (days_before l (j + 2)) (days_before l (j + 1) + length_in_year l (j + 1))
+next_test l k = eqb (days_before l (k + 1)) (days_before l k + length_in_year l k)
 
-next_all : (l : Bool) → every (next_test l) 12 ≡ true
+next_all : (l : Bool) → every_month (next_test l) ≡ true
 unfolding days_before length_in_year month_lengths
 next_all true = refl
 next_all false = refl
 
 pub next_is : (l : Bool) (k : ℕ) → 1 ≤ k → k ≤ 12 → days_before l (k + 1) ≡ days_before l k + length_in_year l k
-next_is l k low high =
-    let same : (k - 1) + 1 ≡ k = omega arith in
-    let more : (k - 1) + 2 ≡ k + 1 = omega arith in
-    let j = k - 1 in
-    let test : next_test l j ≡ true = at (next_test l) 12 (next_all l) j (omega arith) in
-    let e : days_before l (j + 2) ≡ days_before l (j + 1) + length_in_year l (j + 1) = eqb-true (days_before l (j + 2)) (days_before l (j + 1) + length_in_year l (j + 1)) test in
-    cc
+next_is l k low high = eqb-true (days_before l (k + 1)) (days_before l k + length_in_year l k) (at_month (next_test l) (next_all l) k low high)
 
 pub none_before : (l : Bool) → days_before l 1 ≡ 0
 unfolding days_before month_lengths
@@ -95,20 +101,17 @@ placed l p h =
 
 -- no month is longer than 31 days, and none ends after the year
 abbrev most_test : Bool → ℕ → Bool
-most_test l j = leb (length_in_year l (j + 1)) 31 && leb (days_before l (j + 1 + 1)) (cond l 366 365)
+most_test l k = leb (length_in_year l k) 31 && leb (days_before l (k + 1)) (cond l 366 365)
 
-most_all : (l : Bool) → every (most_test l) 12 ≡ true
+most_all : (l : Bool) → every_month (most_test l) ≡ true
 unfolding days_before length_in_year month_lengths
 most_all true = refl
 most_all false = refl
 
 most : (l : Bool) (k : ℕ) → 1 ≤ k → k ≤ 12 → (length_in_year l k ≤ 31) × (days_before l (k + 1) ≤ cond l 366 365)
 most l k low high =
-    let same : (k - 1) + 1 ≡ k = omega arith in
-    let test : most_test l (k - 1) ≡ true = at (most_test l) 12 (most_all l) (k - 1) (omega arith) in
-    let p : (leb (length_in_year l k) 31 && leb (days_before l (k + 1)) (cond l 366 365)) ≡ true = subst (λ (j : ℕ). (leb (length_in_year l j) 31 && leb (days_before l (j + 1)) (cond l 366 365)) ≡ true) same test in
-    let q = and_parts (leb (length_in_year l k) 31) (leb (days_before l (k + 1)) (cond l 366 365)) p in
-    (leb-true (length_in_year l k) 31 q.0, leb-true (days_before l (k + 1)) (cond l 366 365) q.1)
+    let p = and_parts (leb (length_in_year l k) 31) (leb (days_before l (k + 1)) (cond l 366 365)) (at_month (most_test l) (most_all l) k low high) in
+    (leb-true (length_in_year l k) 31 p.0, leb-true (days_before l (k + 1)) (cond l 366 365) p.1)
 
 pub at_most_31 : (l : Bool) (k : ℕ) → 1 ≤ k → k ≤ 12 → length_in_year l k ≤ 31
 at_most_31 l k low high = (most l k low high).0

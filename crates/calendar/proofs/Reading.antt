@@ -6,7 +6,7 @@ use Rattle.calendar.specs.declared.dates.DateFault.{DateFault}
 use Rattle.calendar.specs.declared.dates.DateFault.TheVariants.{NoSuchDate}
 use Rattle.calendar.specs.Days.{is_day, is_month, is_year, year_of_month, month_in_year, month_number, month_of, month_start, month_length, day_in_month}
 use Rattle.calendar.specs.Dates.{number_in, month_figure, day_figure, year_text, month_text, date_text, year_figured, month_figured, day_of_month, day_figured, year_read, month_read, day_read, read_year, read_month, read_date}
-use Rattle.calendar.proofs.Starts.{between, tested, months_follow, month_begin, month_end, month_low, month_high, month_alone, year_of-number, month_of-number, year_from, year_to, twelve_low, twelve_high, number_of_month, day_low, day_high, day_back, length_high}
+use Rattle.calendar.proofs.Starts.{between, tested, months_follow, month_begin, month_within, month_low, month_high, month_alone, year_of-number, month_of-number, year_from, year_to, twelve_low, twelve_high, number_of_month, day_low, day_high, day_back, length_high}
 use Rattle.calendar.proofs.Figures.{number_in-digits, digits_of_text}
 
 -- a month that is read is one of the calendar's
@@ -35,9 +35,8 @@ day_of_month_in n (Ok m) h =
     cond_both (leb 1 n && leb n (month_length m)) (Ok (month_start m + n - 1)) (Err NoSuchDate) (λ (r : Result ℕ DateFault). IfOk r Day)
     (λ e.
     let b = between 1 n (month_length m) e in
-    let f = months_follow m h.0 h.1 in
     let s = month_begin m in
-    let t = month_end m h.0 h.1 in
+    let t = month_within m h.0 h.1 in
     (omega arith, omega arith))
     (λ _. tt)
 day_of_month_in n (Err fault) h = tt
@@ -131,12 +130,12 @@ year_back y h =
 -- what was read has the number that was read
 ok_chosen : (b : Bool) (x y : ℕ) → ◌≡◌ {A = Result ℕ DateFault} (cond b (Ok x) (Err NoSuchDate)) (Ok y) → (b ≡ true) × (x ≡ y)
 ok_chosen true x y e = (refl, cc)
-ok_chosen false x y e = let z : ◌≡◌ {A = ℕ} 0 1 = cc in absurd (omega arith)
+ok_chosen false x y e = absurd (cc)
 
 year-number_read : (o : Option ℕ) (y : ℕ) → year_read o ≡ Ok y → o ≡ Some y
 unfolding year_figured
 year-number_read (Some v) y e = ap Some (ok_chosen (is_year v) v y e).1
-year-number_read None y e = let z : ◌≡◌ {A = ℕ} 0 1 = cc in absurd (omega arith)
+year-number_read None y e = absurd (cc)
 
 month_number_figured : (v m : ℕ) → month_figured v ≡ Ok m → month_figure m ≡ v
 unfolding month_figured month_figure
@@ -153,7 +152,7 @@ month_number_figured v m e =
 
 month_number_read : (o : Option ℕ) (m : ℕ) → month_read o ≡ Ok m → o ≡ Some (month_figure m)
 month_number_read (Some v) m e = ap Some (sym (month_number_figured v m e))
-month_number_read None m e = let z : ◌≡◌ {A = ℕ} 0 1 = cc in absurd (omega arith)
+month_number_read None m e = absurd (cc)
 
 -- day n of the month with the number v is in that month, and is its day n
 day-placed : (v n : ℕ) (r : Result ℕ DateFault) (d : ℕ) → month_figured v ≡ r → day_of_month n r ≡ Ok d → (month_figure (month_of d) ≡ v) × (day_in_month d ≡ n)
@@ -167,7 +166,7 @@ day-placed v n (Ok m) d is e =
     let same : month_of d ≡ m = month_alone d m h.0 h.1 (omega arith) (omega arith) in
     let start : month_start (month_of d) ≡ month_start m = ap month_start same in
     (ap month_figure same ∙ month_number_figured v m is, omega arith)
-day-placed v n (Err fault) d is e = let z : ◌≡◌ {A = ℕ} 0 1 = cc in absurd (omega arith)
+day-placed v n (Err fault) d is e = absurd (cc)
 
 day-number_figured : (v d : ℕ) → day_figured v ≡ Ok d → day_figure d ≡ v
 unfolding day_figured day_figure
@@ -177,7 +176,7 @@ day-number_figured v d e =
 
 day-number_read : (o : Option ℕ) (d : ℕ) → day_read o ≡ Ok d → o ≡ Some (day_figure d)
 day-number_read (Some v) d e = ap Some (sym (day-number_figured v d e))
-day-number_read None d e = let z : ◌≡◌ {A = ℕ} 0 1 = cc in absurd (omega arith)
+day-number_read None d e = absurd (cc)
 
 -- so it was read from its own text
 pub year_text_alone : (text : List ℕ) (y : ℕ) → read_year text ≡ Ok y → text ≡ year_text y
@@ -191,3 +190,6 @@ month_text_alone text m e = sym (digits_of_text 6 text (month_figure m) (month_n
 pub date_text_alone : (text : List ℕ) (d : ℕ) → read_date text ≡ Ok d → text ≡ date_text d
 unfolding date_text
 date_text_alone text d e = sym (digits_of_text 8 text (day_figure d) (day-number_read (number_in 8 text) d e))
+
+-- what the laws of dates follow from
+pub ruleset date_steps = (day_back_read, month_back, year_back, read_date_in, read_month_in, read_year_in, date_text_alone, month_text_alone, year_text_alone)

@@ -3,7 +3,7 @@ use Rattle.std.proofs.Common.{◌≡◌, ℕ, zero, suc, ◌+◌, ◌-◌, ◌<�
 use Rattle.std.proofs.lemmas.Bool.{and_parts, and_from, leb-true, le-leb, cases_lt, cases_order}
 use Rattle.calendar.specs.Days.{leap, new_year, year_of, year_of_month, month_in_year, month_number, month_lengths, month_length, days_before, month_start, month_at, month_of, day_in_month}
 use Rattle.calendar.proofs.Months.{next_is, none_before, all_before, at_most_31, at_most_all, placed}
-use Rattle.calendar.proofs.Years.{year_from_2019, year_to_2082, year-begun, years_follow, year_lasts_from, new_year_high}
+use Rattle.calendar.proofs.Years.{year_from_2019, year_to_2082, year-begun, year_lasts, years_rise, years_follow, year_lasts_from, new_year_high}
 
 -- a test that a number lies between two others tells both
 pub between : (a n b : ℕ) → (leb a n && leb n b) ≡ true → (a ≤ n) × (n ≤ b)
@@ -121,6 +121,12 @@ lies d low high =
     let pl = p.lasts in
     record { is = is; low = p.low; high = p.high; begun = omega arith; lasts = omega arith }
 
+pub month_begun : (d : ℕ) → 1 ≤ d → d ≤ 23376 → month_start (month_of d) ≤ d
+month_begun d low high = (lies d low high).begun
+
+pub month_lasts : (d : ℕ) → 1 ≤ d → d ≤ 23376 → d < month_start (month_of d + 1)
+month_lasts d low high = (lies d low high).lasts
+
 -- a day's month lies in the day's year
 pub month-year : (d : ℕ) → 1 ≤ d → d ≤ 23376 → year_of_month (month_of d) ≡ year_of d
 month-year d low high =
@@ -175,6 +181,9 @@ month_end m low high =
     let n = new_year_high (y + 1) (omega (arith, year_to m high)) in
     omega arith
 
+pub month_within : (m : ℕ) → 1 ≤ m → m ≤ 768 → month_start m + month_length m ≤ 23377
+month_within m low high = omega (arith, months_follow m low high, month_end m low high)
+
 pub month_begin : (m : ℕ) → 1 ≤ month_start m
 unfolding month_start new_year
 month_begin m = omega arith
@@ -212,3 +221,6 @@ month_alone d m low high begun lasts =
     (λ earlier. absurd (omega (arith, l.lasts, starts_rise (month_of d + 1) m (omega arith) (omega arith) (omega arith))))
     (λ later. absurd (omega (arith, l.begun, starts_rise (m + 1) (month_of d) (omega arith) (omega arith) (omega arith)))))
     (cases_order (month_of d) m)
+
+-- what the laws of the calendar follow from
+pub ruleset calendar_steps = (years_follow, january, months_follow, year_from_2019, year_to_2082, year-begun, year_lasts, month_low, month_high, month_begun, month_lasts, month-year, years_rise)

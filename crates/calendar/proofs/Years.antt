@@ -1,7 +1,7 @@
 -- The years: where each begins, and which of them has a day.
 use Rattle.std.proofs.Common.{◌≡◌, ℕ, ◌+◌, ◌-◌, ◌%◌, ◌<◌, ◌≤◌, cond, eqb, arith}
 use Rattle.std.proofs.lemmas.Bool.Decides.{nat_tests}
-use Rattle.calendar.specs.Days.{leap, new_year, year_of}
+use Rattle.calendar.specs.Days.{leap, year_length, new_year, year_of}
 
 -- a day of the calendar has a year of the calendar
 pub year_from_2019 : (d : ℕ) → 1 ≤ d → 2019 ≤ year_of d
@@ -43,6 +43,13 @@ year_lasts_from d low high =
     let h = year_lasts d low high in
     let b = year-begun d low high in
     omega arith
+
+pub year_holds : (d : ℕ) → 1 ≤ d → d ≤ 23376 → d - new_year (year_of d) < year_length (year_of d)
+unfolding year_length
+year_holds d low high = year_lasts_from d low high
+
+-- where a day is in its year
+pub ruleset place_in_year = (year-begun, year_holds)
 
 -- no year of the calendar, nor the next, begins after the calendar's last day but one
 pub new_year_high : (y : ℕ) → y ≤ 2083 → new_year y ≤ 23377

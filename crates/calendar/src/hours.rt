@@ -1,8 +1,8 @@
-ghost use Rattle.std.specs.Prelude.{◌≡◌, ◌≤◌, if◌then◌else◌, Some, None};
+ghost use Rattle.std.specs.Prelude.{◌≡◌, if◌then◌else◌, Some, None};
 ghost use Rattle.calendar.specs.Days.{is_day};
 ghost use Rattle.calendar.specs.Hours.{sunday, last_sunday, hours_of};
 
-use super::days::{is_day, month_at, month_in_year, start_of_month};
+use super::day::Day;
 
 // Is it a Sunday?
 pub fn is_sunday(day: u16) -> bool
@@ -11,26 +11,26 @@ pub fn is_sunday(day: u16) -> bool
     day % 7 == 6
 }
 
-// Is it the last Sunday of its month?
-fn is_last_sunday(day: u16) -> bool
-    requires { (1 ≤ day) × (day ≤ 23376) }
-    ensures { result ≡ last_sunday day }
-{
-    is_sunday(day) && start_of_month(month_at(day) + 1) <= day + 7
-}
-
-// The hours of one of the days.
-fn hours_at(day: u16) -> u8
-    requires { (1 ≤ day) × (day ≤ 23376) }
-    ensures { result ≡ hours_of day }
-{
-    if !is_last_sunday(day) {
-        return 24;
+impl Day {
+    // Is it the last Sunday of its month?
+    #[tactic(auto, using(crate::proofs::Starts::months_follow))]
+    fn is_last_sunday(self) -> bool
+        ensures { result ≡ last_sunday self.number }
+    {
+        let month = self.month();
+        is_sunday(self.number) && month.first_day().number + month.length() <= self.number + 7
     }
-    match month_in_year(month_at(day)) {
-        3 => 23,
-        10 => 25,
-        _ => 24,
+
+    // Its hours.
+    #[tactic(auto, unfolding(crate::specs::Hours::hours_of))]
+    fn hours(self) -> u8
+        ensures { result ≡ hours_of self.number }
+    {
+        match self.month().in_year() {
+            3 if self.is_last_sunday() => 23,
+            10 if self.is_last_sunday() => 25,
+            _ => 24,
+        }
     }
 }
 
@@ -38,9 +38,5 @@ fn hours_at(day: u16) -> u8
 pub fn hours_of(day: u16) -> Option<u8>
     ensures { result ≡ (if is_day day then Some (hours_of day) else None) }
 {
-    if is_day(day) {
-        Some(hours_at(day))
-    } else {
-        None
-    }
+    Some(Day::new(day)?.hours())
 }

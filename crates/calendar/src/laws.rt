@@ -3,8 +3,9 @@ ghost use Rattle.calendar.specs.Laws.{DaysLieInYears, DaysLieInMonths, MonthsLie
 ghost use Rattle.calendar.specs.Laws.{WorkedHours, DatesReturn, MonthsReturn, YearsReturn, ReadsDays, ReadsMonths, ReadsYears};
 ghost use Rattle.calendar.specs.Laws.{OneTextADay, OneTextAMonth, OneTextAYear};
 
-// The laws of the calendar, proved: there is nothing to compute.
-pub fn calendar_laws() -> u8
+// The laws of the calendar, proved.
+#[tactic(auto, using(crate::proofs::Starts::calendar_steps, std::proofs::lemmas::Bool::Decides::nat_tests), unfolding(crate::specs::Days::year_length))]
+pub fn calendar_laws()
     ensures begins { Begins }
     ensures years { YearsFollow }
     ensures ends { Ends }
@@ -16,12 +17,11 @@ pub fn calendar_laws() -> u8
     ensures rise { YearsRise }
     ensures worked { WorkedDays }
     ensures hours { WorkedHours }
-{
-    0
-}
+{}
 
-// The laws of dates as text, proved: there is nothing to compute.
-pub fn date_laws() -> u8
+// The laws of dates as text, proved.
+#[tactic(auto, using(crate::proofs::Reading::date_steps))]
+pub fn date_laws()
     ensures days { DatesReturn }
     ensures months { MonthsReturn }
     ensures years { YearsReturn }
@@ -31,6 +31,4 @@ pub fn date_laws() -> u8
     ensures day_text { OneTextADay }
     ensures month_text { OneTextAMonth }
     ensures year_text { OneTextAYear }
-{
-    0
-}
+{}

@@ -2,9 +2,12 @@
 #![tactic(auto)]
 
 pub mod dates;
+mod day;
 pub mod days;
 pub mod hours;
 pub mod laws;
+mod month;
+mod year;
 
 #[cfg(test)]
 mod tests {

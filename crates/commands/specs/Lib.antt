@@ -1,3 +1,2 @@
-pub mod Answers
 pub mod Commands
-pub mod Rows
+pub mod Vocabularies

@@ -1,17 +1,15 @@
-// The commands of a log as they are read, and their answers as they are written.
+// The commands of a log, as they are read.
 #![tactic(auto)]
 
-mod answer;
 mod command;
-mod field;
+mod fields;
+mod keyword;
 mod reading;
-mod row;
-mod writing;
+mod vocabulary;
 
-pub use answer::Answer;
-pub use command::{Command, IndexReading};
-pub use reading::{is_passed_over, read_command};
-pub use writing::{push_answer, push_end, push_interval, push_line};
+pub use command::{Beginning, Command, IndexReading, MeterField};
+pub use reading::{is_passed_over, read_command, usual_beginning};
+pub use vocabulary::Vocabulary;
 
 #[cfg(test)]
 mod tests;

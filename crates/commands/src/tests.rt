@@ -1,13 +1,8 @@
 // Examples and edges.
-use crate::answer::Answer;
-use crate::command::{Command, IndexReading};
+use crate::command::{Beginning, Command, IndexReading, MeterField};
 use crate::reading::{is_passed_over, read_command};
-use crate::writing::{push_answer, push_end, push_interval, push_line};
-use amounts::Refusal;
-use parts::{Part, Parts};
-use rules::{Interval, Kind, Line, Status};
+use crate::vocabulary::Vocabulary;
 use std::process::Abort;
-use std::test::Fail;
 
 fn check_bad(rt: &impl Abort, line: &[u8]) {
     assert!(rt; read_command(line).is_none());
@@ -15,24 +10,25 @@ fn check_bad(rt: &impl Abort, line: &[u8]) {
 
 #[test]
 fn setup_is_read(rt: HostRuntime) {
-    let setup = Command::Setup {
-        year: 2020,
-        line: 1,
-        intervals: 512,
-        lines: 512,
-        lots: 16,
-    };
-    let largest = Command::Setup {
-        year: 65_535,
-        line: 4_294_967_295,
-        intervals: 16_384,
-        lines: 65_536,
-        lots: 4_096,
-    };
-    assert_eq!(rt; read_command(b"setup,2020,1,512,512,16"), Some(setup));
+    assert_eq!(rt;
+        read_command(b"setup,2020,1,512,512,16"),
+        Some(Command::Setup(Beginning {
+            year: 2020,
+            line: 1,
+            intervals: 512,
+            lines: 512,
+            lots: 16,
+        }))
+    );
     assert_eq!(rt;
         read_command(b"setup,70000,4294967295,16385,65537,4097"),
-        Some(largest)
+        Some(Command::Setup(Beginning {
+            year: 65_535,
+            line: 4_294_967_295,
+            intervals: 16_384,
+            lines: 65_536,
+            lots: 4_096,
+        }))
     );
     check_bad(&rt, b"setup,2020,4294967296,512,512,16");
     check_bad(&rt, b"setup,2020,1,512,512");
@@ -66,45 +62,115 @@ fn enrol_is_read(rt: HostRuntime) {
 }
 
 #[test]
-fn quota_and_price_are_read(rt: HostRuntime) {
-    let quota = Command::Quota {
-        day: 366,
-        quota: 450_000,
-    };
-    let price = Command::Price {
-        month: 13,
-        price: 1_395_000,
-    };
-    let no_month = Command::Price { month: 0, price: 1 };
-    assert_eq!(rt; read_command(b"quota,20200101,450000"), Some(quota));
-    assert_eq!(rt; read_command(b"price,202001,1395000"), Some(price));
-    assert_eq!(rt; read_command(b"price,209912,1"), Some(no_month));
+fn figures_are_read(rt: HostRuntime) {
+    assert_eq!(rt;
+        read_command(b"quota,20200101,450000"),
+        Some(Command::Quota {
+            day: 366,
+            quota: 450_000
+        })
+    );
+    assert_eq!(rt;
+        read_command(b"price,202001,1395000"),
+        Some(Command::Price {
+            month: 13,
+            price: 1_395_000
+        })
+    );
+    assert_eq!(rt;
+        read_command(b"price,209912,1"),
+        Some(Command::Price { month: 0, price: 1 })
+    );
+    assert_eq!(rt;
+        read_command(b"final,2020,440000,1395000"),
+        Some(Command::Final {
+            year: 2020,
+            quota: 440_000,
+            price: 1_395_000
+        })
+    );
+    assert_eq!(rt;
+        read_command(b"forget,70000"),
+        Some(Command::Forget { year: 65_535 })
+    );
     check_bad(&rt, b"quota,20200101");
     check_bad(&rt, b"quota,20200101,0450000");
     check_bad(&rt, b"quota,20200101,4294967296");
     check_bad(&rt, b"price,2020011,1395000");
     check_bad(&rt, b"price,202001,");
     check_bad(&rt, b"price,202001,1,1");
+    check_bad(&rt, b"final,2020,440000");
+    check_bad(&rt, b"final,2020,440000,1,1");
+    check_bad(&rt, b"forget");
+    check_bad(&rt, b"forget,02020");
+}
+
+#[test]
+fn registers_are_named(rt: HostRuntime) {
+    assert_eq!(rt;
+        read_command(b"register,0,2020"),
+        Some(Command::Register { id: 0, year: 2020 })
+    );
+    assert_eq!(rt;
+        read_command(b"register,15,70000"),
+        Some(Command::Register {
+            id: 15,
+            year: 65_535
+        })
+    );
+    assert_eq!(rt;
+        read_command(b"hour,15,20200101,300,10000"),
+        Some(Command::Hour {
+            id: 15,
+            day: 366,
+            hour: 255,
+            kwh: 10_000
+        })
+    );
+    assert_eq!(rt;
+        read_command(b"hour,0,20190101,0,4294967295"),
+        Some(Command::Hour {
+            id: 0,
+            day: 1,
+            hour: 0,
+            kwh: 4_294_967_295
+        })
+    );
+    check_bad(&rt, b"register,16,2020");
+    check_bad(&rt, b"register,271,2020");
+    check_bad(&rt, b"register,15");
+    check_bad(&rt, b"register,015,2020");
+    check_bad(&rt, b"hour,16,20200101,0,1");
+    check_bad(&rt, b"hour,0,20200101,0");
+    check_bad(&rt, b"hour,0,20200101,0,1,1");
 }
 
 #[test]
 fn issue_is_read(rt: HostRuntime) {
-    let meter = IndexReading {
-        first: 366,
-        last: 396,
-        before: 0,
-        after: 1_000,
-    };
-    let issue = Command::Issue {
-        place: 7,
-        first: 366,
-        last: 396,
-        issued: 406,
-        meter,
-    };
     assert_eq!(rt;
         read_command(b"issue,7,20200101,20200131,20200210,index,20200101,20200131,0,1000"),
-        Some(issue)
+        Some(Command::Issue {
+            place: 7,
+            first: 366,
+            last: 396,
+            issued: 406,
+            meter: MeterField::Index(IndexReading {
+                first: 366,
+                last: 396,
+                before: 0,
+                after: 1_000
+            })
+        })
+    );
+    assert_eq!(rt;
+        read_command(b"issue,7,20200101,20200131,20200210,register,9"),
+        Some(Command::Issue {
+            place: 7,
+            first: 366,
+            last: 396,
+            issued: 406,
+            meter: MeterField::Register(9)
+        })
     );
     check_bad(
         &rt,
@@ -118,6 +184,9 @@ fn issue_is_read(rt: HostRuntime) {
         &rt,
         b"issue,7,20200101,20200131,20200210,meter,20200101,20200131,0,1000",
     );
+    check_bad(&rt, b"issue,7,20200101,20200131,20200210,register");
+    check_bad(&rt, b"issue,7,20200101,20200131,20200210,register,16");
+    check_bad(&rt, b"issue,7,20200101,20200131,20200210,register,9,");
     check_bad(&rt, b"issue,7,20200101,20200131,20200210");
 }
 
@@ -147,80 +216,25 @@ fn what_asks_for_text_is_read(rt: HostRuntime) {
 }
 
 #[test]
+fn billing_has_commands_of_its_own(rt: HostRuntime) {
+    let board = b"board";
+    assert_eq!(rt; Vocabulary::Whole.read(board), Some(Command::Board));
+    assert_eq!(rt; Vocabulary::Billing.read(board), None);
+    assert_eq!(rt; Vocabulary::Billing.read(b"lines"), Some(Command::Lines));
+    let by_register = b"issue,7,20200101,20200131,20200210,register,9";
+    assert!(rt; Vocabulary::Whole.read(by_register).is_some());
+    assert_eq!(rt; Vocabulary::Billing.read(by_register), None);
+    assert_eq!(rt;
+        Vocabulary::Billing.read(b"final,2020,440000,1395000"),
+        None
+    );
+}
+
+#[test]
 fn empty_lines_and_remarks_are_passed_over(rt: HostRuntime) {
     assert!(rt; is_passed_over(b""));
     assert!(rt; is_passed_over(b"#"));
     assert!(rt; is_passed_over(b"# lines"));
     assert!(rt; !is_passed_over(b" #"));
     assert!(rt; !is_passed_over(b"lines"));
-}
-
-#[test]
-fn answers_are_written(rt: HostRuntime) -> Result<(), Fail> {
-    let faulty = Refusal::FaultyNotice { line: 3, field: 2 };
-    let mut out = Vec::new(rt.alloc());
-    push_answer(&mut out, 1, Answer::Taken)?;
-    push_answer(&mut out, 2, Answer::Number(4_294_967_295))?;
-    push_answer(&mut out, 3, Answer::Amount(-6_278))?;
-    push_answer(&mut out, 4, Answer::Refused(Refusal::BadFigure))?;
-    push_answer(&mut out, 5, Answer::Refused(faulty))?;
-    push_answer(&mut out, 6, Answer::Bad)?;
-    push_end(&mut out, 0)?;
-    assert!(rt;
-        out.as_slice()
-            == b"1,ok\n2,ok,4294967295\n3,ok,-6278\n4,refused,26\n5,refused,27,3,2\n6,bad\nend,0\n".as_slice()
-    );
-    Ok(())
-}
-
-#[test]
-fn a_line_is_written(rt: HostRuntime) -> Result<(), Fail> {
-    let line = Line {
-        number: 2,
-        place: 7,
-        year: 2020,
-        interval: 1,
-        part: 1,
-        kind: Kind::TakeBack,
-        charged: 1_000,
-        value: -6_278,
-        takes_back: 1,
-    };
-    let mut out = Vec::new(rt.alloc());
-    push_line(&mut out, &line)?;
-    assert!(rt; out.as_slice() == b"2,7,2020,1,1,T,1000,-6278,1\n".as_slice());
-    Ok(())
-}
-
-#[test]
-fn an_interval_is_written(rt: HostRuntime) -> Result<(), Fail> {
-    let part = Part {
-        first: 366,
-        last: 396,
-        quota: 450_000,
-        percent: 60,
-        kwh: 1_000,
-        charged: 400,
-    };
-    let interval = Interval {
-        number: 1,
-        place: 7,
-        year: 2020,
-        first: 366,
-        last: 0,
-        price: 1_395_000,
-        price_month: 13,
-        status: Status::UnderCorrection,
-        parts: Parts {
-            count: 1,
-            list: [part; 4],
-        },
-    };
-    let mut out = Vec::new(rt.alloc());
-    push_interval(&mut out, &interval)?;
-    assert!(rt;
-        out.as_slice()
-            == b"1,7,2020,20200101,00000000,1395000,202001,correction,1,20200101,20200131,450000,60,1000,400\n".as_slice()
-    );
-    Ok(())
 }

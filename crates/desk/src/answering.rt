@@ -1,72 +1,54 @@
-ghost use Rattle.std.specs.Prelude.{◌≡◌};
-ghost use Rattle.std.specs.List.{flat_map};
-ghost use Rattle.books.specs.Roll.{places};
-ghost use Rattle.sources.specs.Board.{figures};
-ghost use Rattle.journal.specs.Model.{model};
-ghost use Rattle.commands.specs.Answers.{interval_text, line_text};
-ghost use Rattle.commands.specs.Rows.{Writes};
-ghost use Rattle.desk.specs.Desk.{after, desk_of, records_text, response};
+ghost use Rattle.std.specs.Prelude.{◌≡◌, OnOk};
+ghost use Rattle.answers.specs.Answers.{answer_text};
+ghost use Rattle.answers.specs.Rows.{Writes};
+ghost use Rattle.office.specs.Desk.{after_notice, by_source, desk, notice_answer, obeyed};
+ghost use Rattle.desk.specs.Desk.{records_text, response};
 
-use super::obeying::obey;
-use books::Roll;
-use commands::{Command, push_answer, push_interval, push_line};
-use journal::Journal;
-use rules::{NO_INTERVAL, NO_LINE};
-use sources::Board;
-use std::alloc::AllocError;
-
-// Appends every line of the journal.
-fn push_lines(out: &mut Vec<u8>, journal: &Journal<'_>) -> Result<(), AllocError>
-    ensures { Writes result out.old.items out.new.items (flat_map line_text (model journal.now).lines) }
-{
-    for i in 0..journal.line_count() {
-        let mut line = NO_LINE;
-        let _ = journal.line_at(i, &mut line);
-        push_line(out, &line)?;
-    }
-    Ok(())
-}
-
-// Appends every interval of the journal.
-fn push_intervals(out: &mut Vec<u8>, journal: &Journal<'_>) -> Result<(), AllocError>
-    ensures { Writes result out.old.items out.new.items (flat_map interval_text (model journal.now).intervals) }
-{
-    for i in 0..journal.interval_count() {
-        let mut interval = NO_INTERVAL;
-        let _ = journal.interval_at(i, &mut interval);
-        push_interval(out, &interval)?;
-    }
-    Ok(())
-}
+use super::rows::push_rows;
+use answers::push_answer;
+use commands::Command;
+use office::Office;
+use std::alloc::{AllocError, Global};
 
 // Appends the records that follow the answer to some commands.
-fn push_records(
-    out: &mut Vec<u8>,
-    journal: &Journal<'_>,
-    command: Command,
-) -> Result<(), AllocError>
-    ensures { Writes result out.old.items out.new.items (records_text command (model journal.now)) }
+fn push_records(out: &mut Vec<u8>, office: &Office<'_>, command: Command) -> Result<(), AllocError>
+    ensures { Writes result out.old.items out.new.items (records_text command (desk office.now).books) }
 {
     match command {
-        Command::Lines => push_lines(out, journal),
-        Command::Intervals => push_intervals(out, journal),
+        Command::Lines => push_rows(out, office.journal().lines()),
+        Command::Intervals => push_rows(out, office.journal().intervals()),
         _ => Ok(()),
     }
+}
+
+// Reads a notice, which is the source from here on, and appends the answer to its line. Without the memory for both
+// all but the source stays.
+pub fn respond_to_notice(
+    out: &mut Vec<u8>,
+    office: &mut Office<'_>,
+    heap: Global,
+    line: u64,
+    text: &[u8],
+) -> Result<(), AllocError>
+    ensures text { Writes result out.old.items out.new.items (answer_text line (notice_answer text.now)) }
+    ensures after { OnOk result (desk office.new ≡ after_notice text.now (desk office.old)) }
+    ensures rest { by_source None (desk office.new) ≡ by_source None (desk office.old) }
+{
+    let answer = office.take_notice(heap, text)?;
+    push_answer(out, line, answer)
 }
 
 // Carries a command out and appends its answer.
 pub fn respond(
     out: &mut Vec<u8>,
-    journal: &mut Journal<'_>,
-    roll: &mut Roll,
-    board: &mut Board,
+    office: &mut Office<'_>,
     line: u64,
     command: Command,
 ) -> Result<(), AllocError>
-    ensures text { Writes result out.old.items out.new.items (response line command (desk_of (model journal.old) (places roll.old) (figures board.old))) }
-    ensures after { desk_of (model journal.new) (places roll.new) (figures board.new) ≡ after command (desk_of (model journal.old) (places roll.old) (figures board.old)) }
+    ensures text { Writes result out.old.items out.new.items (response line command (obeyed command (desk office.old))) }
+    ensures after { desk office.new ≡ (obeyed command (desk office.old)).1 }
 {
-    let answer = obey(journal, roll, board, command);
+    let answer = office.obey(command);
     push_answer(out, line, answer)?;
-    push_records(out, journal, command)
+    push_records(out, office, command)
 }

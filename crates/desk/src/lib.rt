@@ -1,10 +1,7 @@
-// What the office's program does with a log of commands, on values.
+// What is written for each command of a log.
 #![tactic(auto)]
 
 mod answering;
-mod log;
-mod obeying;
+mod rows;
 
-pub use answering::respond;
-pub use log::{Entry, Log};
-pub use obeying::obey;
+pub use answering::{respond, respond_to_notice};

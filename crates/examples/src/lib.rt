@@ -3,8 +3,7 @@
 
 ghost use Rattle.examples.specs.Examples.{Examples};
 
-pub fn worked_examples() -> u8
+#[tactic(auto, unfolding(amounts::specs::Amounts::rounded, amounts::specs::Amounts::value, amounts::specs::Amounts::exempt, amounts::specs::Amounts::charged))]
+pub fn worked_examples()
     ensures { Examples }
-{
-    0
-}
+{}

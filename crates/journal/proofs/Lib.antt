@@ -1,4 +1,4 @@
 pub mod Passes
-pub mod Rows
+pub mod Supplies
 pub mod Numbering
 pub mod Issuing

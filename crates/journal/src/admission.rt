@@ -1,13 +1,12 @@
-ghost use Rattle.std.specs.Prelude.{◌≡◌, ◌≤◌, true, false, IfOk, OnOk};
+ghost use Rattle.std.specs.Prelude.{◌≡◌, false, OnOk};
 ghost use Rattle.amounts.specs.Tables.{first_refused};
-ghost use Rattle.calendar.specs.Days.{is_day, year_of};
 ghost use Rattle.rules.specs.Books.{serves};
 ghost use Rattle.rules.specs.Issue.{bad_days};
 ghost use Rattle.journal.specs.Model.{model};
 ghost use Rattle.journal.specs.Stages.{admission, admitted_as};
 
 use super::held::{Admitted, Journal};
-use super::survey::look_over;
+use super::survey::{is_day_shared, is_year_settled, kwh_of_year};
 use amounts::Refusal;
 use books::Enrolment;
 use calendar::days::{is_day, year_of};
@@ -16,7 +15,8 @@ use rules::Supply;
 // The most days of one supply.
 const MAX_DAYS: u16 = 92;
 
-// A day outside the calendar, the last before the first, too many days, or issued before the last day.
+// A day outside the calendar, the last before the first, too many days, or issued before the last day: one row of the
+// table of an issue. An enrolment and a meter have rows of their own, alike in their first three tests.
 fn has_bad_days(supply: Supply) -> bool
     ensures { result ≡ bad_days supply }
 {
@@ -28,19 +28,12 @@ fn has_bad_days(supply: Supply) -> bool
         || supply.issued < supply.last
 }
 
-// The year of a day of the calendar.
-fn year_at(day: u16) -> u16
-    ensures { is_day day ≡ true → result ≡ year_of day }
-{
-    year_of(day).unwrap_or(0)
-}
-
 impl<'a> Journal<'a> {
     // Is it the first year or one of the next three, as far as 2082?
     fn serves_year(&self, year: u16) -> bool
         ensures { result ≡ serves (model self.now) year }
     {
-        self.first_year <= year && year <= self.first_year + 3 && year <= 2082
+        (self.first_year..=self.first_year + 3).contains(&year) && year <= 2082
     }
 
     // May the supply be billed at all?
@@ -51,32 +44,29 @@ impl<'a> Journal<'a> {
     ) -> Result<Admitted, Refusal>
         ensures told { result ≡ first_refused (admission enrolment supply (model self.now)) (admitted_as enrolment supply (model self.now)) }
         ensures days { OnOk result (bad_days supply ≡ false) }
-        ensures bound { IfOk result (λ a. a.kwh ≤ 281474976710656) }
     {
-        let Some(enrolment) = enrolment else {
-            return Err(Refusal::NoPlace);
-        };
+        let enrolment = enrolment.ok_or(Refusal::NoPlace)?;
         if has_bad_days(supply) {
             return Err(Refusal::BadDay);
         }
-        let year = year_at(supply.first);
-        if year != year_at(supply.last) {
+        let year = year_of(supply.first).unwrap();
+        if year != year_of(supply.last).unwrap() {
             return Err(Refusal::TwoYears);
         }
         if !self.serves_year(year) {
             return Err(Refusal::YearNotServed);
         }
-        let seen = look_over(&self.intervals, supply, year);
-        if seen.settled {
+        let intervals = self.intervals.as_slice();
+        if is_year_settled(intervals, supply.place, year) {
             return Err(Refusal::SettledYear);
         }
-        if seen.shared {
+        if is_day_shared(intervals, supply) {
             return Err(Refusal::SharedDay);
         }
         Ok(Admitted {
             enrolment,
             year,
-            kwh: seen.kwh,
+            kwh: kwh_of_year(intervals, supply.place, year),
         })
     }
 }

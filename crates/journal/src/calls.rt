@@ -5,8 +5,7 @@ ghost use Rattle.rules.specs.Issue.{asked, issue};
 ghost use Rattle.journal.specs.Model.{model};
 ghost use Rattle.journal.specs.Stages.{Planned};
 
-use super::held::Journal;
-use super::measuring::measured;
+use super::held::{Inquiry, Journal};
 use amounts::Refusal;
 use books::{Book, Enrolment, Roll};
 use meters::meter::Meter;
@@ -32,7 +31,7 @@ impl<'a> Journal<'a> {
         Journal {
             intervals: Book::new(intervals, MAX_INTERVALS),
             lines: Book::new(lines, MAX_LINES),
-            first_year: first_year.min(2079).max(2019),
+            first_year: first_year.clamp(2019, 2079),
             next: u64::from(first_line).max(1),
             figures: [None; 4],
         }
@@ -49,8 +48,14 @@ impl<'a> Journal<'a> {
         ensures { Planned (asked supply enrolment (S.quota source.now) (S.price source.now) (M.means meter.now)) (model self.now) result }
     {
         let admitted = self.admitted(enrolment, supply)?;
-        let measured = measured(source, meter, admitted, supply)?;
-        self.bookable(measured)?;
+        let inquiry = Inquiry {
+            supply,
+            enrolment: admitted.enrolment,
+            source,
+            meter,
+        };
+        let measured = inquiry.measured(admitted.kwh)?;
+        self.bookable(&measured)?;
         Ok(Interval {
             number: self.next as u32,
             place: supply.place,
@@ -75,12 +80,8 @@ impl<'a> Journal<'a> {
         ensures answers { (result, model self.new) ≡ issue (asked supply (enrolled (places roll.now) supply.place) (S.quota source.now) (S.price source.now) (M.means meter.now)) (model self.old) }
     {
         let enrolment = roll.enrolment(supply.place);
-        match self.plan(enrolment, source, meter, supply) {
-            Err(refusal) => Err(refusal),
-            Ok(interval) => {
-                self.book(interval);
-                Ok(interval.number)
-            }
-        }
+        let interval = self.plan(enrolment, source, meter, supply)?;
+        self.book(interval);
+        Ok(interval.number)
     }
 }

@@ -1,12 +1,13 @@
-ghost use Rattle.std.specs.Prelude.{◌^◌, ◌≤◌};
-ghost use Rattle.books.specs.Records.{room};
+ghost use Rattle.std.specs.Prelude.{◌≡◌, ◌^◌, ◌≤◌, false};
+ghost use Rattle.rules.specs.Issue.{bad_days};
 
 use books::{Book, Enrolment};
 use parts::Parts;
 use parts::pricing::Priced;
-use rules::{Figures, Interval, Line};
+use rules::{Figures, Interval, Line, Supply};
 
-// Intervals and lines over the caller's storage, the years served and the next line number.
+// Intervals and lines over the caller's storage, the years served and the next line number, which is 2^32 when
+// the numbers are used up.
 #[derive(Drop)]
 pub struct Journal<'a> {
     pub(crate) intervals: Book<'a, Interval>,
@@ -16,7 +17,7 @@ pub struct Journal<'a> {
     pub(crate) figures: [Option<Figures>; 4],
     ghost years: { first_year ≤ 2082 },
     ghost numbers: { next ≤ 2 ^ 32 },
-    ghost few: { room intervals ≤ 16384 },
+    ghost few: { intervals.room ≤ 16384 },
 }
 
 // A supply that may be billed: its enrolment, its year, and the kWh that the year has already.
@@ -25,6 +26,16 @@ pub struct Admitted {
     pub enrolment: Enrolment,
     pub year: u16,
     pub kwh: u64,
+}
+
+// What is asked of source and meter: the supply of an enrolled place, whose days are good.
+#[derive(Drop)]
+pub(crate) struct Inquiry<'a, S, M> {
+    pub supply: Supply,
+    pub enrolment: Enrolment,
+    pub source: &'a S,
+    pub meter: &'a M,
+    ghost good: { bad_days supply ≡ false },
 }
 
 // What source and meter told of it: its parts, without kWh yet, and its price.

@@ -2,14 +2,7 @@
 use Rattle.std.proofs.Common.{◌≡◌, ℕ, ◌+◌, ◌-◌, ◌<◌, ◌≤◌, cond, eqb, List, [], ◌∷◌, ◌++◌, length, get_or, take, drop, sym, refl, ap, ◌∙◌, append_assoc, arith}
 use Rattle.std.proofs.lemmas.List.{append-nil, drop_all, drop_more, take_all, take_more}
 use Rattle.std.proofs.lemmas.Bool.{cond-false, ne_eqb}
-use Rattle.text.specs.Pieces.{after}
-use Rattle.logs.specs.Logs.{first_lines, rest_of}
-
--- behind the end of a log there is nothing
-pub empty_after : (t : List ℕ) → length t ≡ 0 → t ≡ rest_of (after 10 t)
-unfolding after
-empty_after [] h = refl
-empty_after (c ∷ cs) h = absurd (omega arith)
+use Rattle.logs.specs.Logs.{first_lines}
 
 -- the first lines, when one byte more was taken
 pub byte_more : (t total : List ℕ) (i n m : ℕ) → i < length t → (n ≡ 0 → ⊥) → m ≡ cond (eqb (get_or t i 0) 10) (n - 1) n → take i t ++ first_lines n (drop i t) ≡ total → take (i + 1) t ++ first_lines m (drop (i + 1) t) ≡ total

@@ -1,8 +1,10 @@
 -- A log: lines that end with byte 10, each a command, or passed over.
 use Rattle.std.specs.Prelude.{ℕ, ◌-◌, Bool, cond, List, [], ◌∷◌, is_some, Some, None, Option, ◌==◌}
 use Rattle.text.specs.Pieces.{after, before}
-use Rattle.commands_more.specs.Commands.{command, passed_over}
-use Rattle.commands_more.specs.declared.command.Command.{Command}
+use Rattle.commands.specs.Commands.{command, passed_over}
+use Rattle.commands.specs.Vocabularies.{known}
+use Rattle.commands.specs.declared.command.Command.{Command}
+use Rattle.commands.specs.declared.vocabulary.Vocabulary.{Vocabulary}
 use Rattle.logs.specs.declared.log.Entry.{Entry}
 use Rattle.logs.specs.declared.log.Entry.TheVariants.{PassedOver, Unreadable, Read}
 
@@ -12,17 +14,12 @@ read_as (Some c) = Read c
 read_as None = Unreadable
 
 -- how a line is read: one that lacks its byte 10 is no command, and an empty line or a remark is passed over all the same
-abbrev pub entry_of : List ℕ → Bool → Entry
-entry_of line ended = cond (passed_over line) PassedOver (cond ended (read_as (command line)) Unreadable)
+abbrev pub entry_of : Vocabulary → List ℕ → Bool → Entry
+entry_of v line ended = cond (passed_over line) PassedOver (cond ended (read_as (known v (command line))) Unreadable)
 
 -- the first line of a log that is not empty
-abbrev pub entry_at : List ℕ → Entry
-entry_at log = entry_of (before 10 log) (is_some (after 10 log))
-
--- what follows a line, nothing where it was the last
-abbrev pub rest_of : Option (List ℕ) → List ℕ
-rest_of (Some rest) = rest
-rest_of None = []
+abbrev pub entry_at : Vocabulary → List ℕ → Entry
+entry_at v log = entry_of v (before 10 log) (is_some (after 10 log))
 
 -- the first lines of a text with the bytes 10 that end them: so many, or all where there are fewer
 unfoldable pub first_lines : ℕ → List ℕ → List ℕ

@@ -1,11 +1,11 @@
-ghost use Rattle.std.specs.Prelude.{◌≡◌, ◌+◌, ◌-◌, ◌^◌, ◌≤◌, min, ◌++◌, length, take, if◌then◌else◌, Some, None, nat_eq};
-ghost use Rattle.text.specs.Pieces.{after as behind};
-ghost use Rattle.logs.specs.Logs.{entry_at, entry_of, first_lines, rest_of};
+ghost use Rattle.std.specs.Prelude.{◌≡◌, ◌+◌, ◌-◌, ◌^◌, ◌<◌, ◌≤◌, OnSome, min, ◌++◌, length, take, if◌then◌else◌, Some, None, nat_eq};
+ghost use Rattle.text.specs.Taken.{after_line, text_left};
+ghost use Rattle.logs.specs.Logs.{entry_at, entry_of, first_lines};
 
-use commands_more::{Command, is_passed_over, read_command};
-use text::cut_at;
+use commands::{Command, Vocabulary, is_passed_over};
+use text::{Line, Lines};
 
-// One line of a log.
+// One line of a log: three cases with names, where an Option in an Option would not say which none it is.
 #[derive(Clone, Copy)]
 pub enum Entry {
     // An empty line or a remark: it gets no answer.
@@ -15,27 +15,27 @@ pub enum Entry {
     Read(Command),
 }
 
-// What is left of a log, and how many lines were taken.
+// What is left of a log, how many lines were taken, and which commands it may have.
 #[derive(Clone, Copy)]
 pub struct Log<'a> {
-    pub rest: &'a [u8],
+    pub vocabulary: Vocabulary,
+    pub lines: Lines<'a>,
     pub line: u64,
 }
 
-// How a line is read, and whether it has its byte 10.
-fn read_entry(line: &[u8], ended: bool) -> Entry
-    ensures { result ≡ entry_of line.now ended }
+// How a line is read.
+fn read_entry(vocabulary: Vocabulary, line: Line<'_>) -> Entry
+    ensures { result ≡ entry_of vocabulary line.entry.text.now line.entry.ended }
 {
-    if is_passed_over(line) {
+    if is_passed_over(line.text) {
         return Entry::PassedOver;
     }
-    if !ended {
+    if !line.ended {
         return Entry::Unreadable;
     }
-    match read_command(line) {
-        None => Entry::Unreadable,
-        Some(command) => Entry::Read(command),
-    }
+    vocabulary
+        .read(line.text)
+        .map_or(Entry::Unreadable, Entry::Read)
 }
 
 // How many lines are left to take behind a byte.
@@ -49,7 +49,8 @@ fn left_behind(left: u32, byte: u8) -> u32
     }
 }
 
-// Where the first lines of a text end: behind so many bytes 10, or where the text does.
+// Where the first lines of a text end: behind so many bytes 10, or where the text does. By a `filter` and `nth` a count
+// of 0, and a text that ends early, would be cases of their own.
 fn end_of_lines(text: &[u8], count: u32) -> usize
     ensures within { result ≤ length text.now }
     ensures front { take result text.now ≡ first_lines count text.now }
@@ -65,43 +66,44 @@ fn end_of_lines(text: &[u8], count: u32) -> usize
 }
 
 impl<'a> Log<'a> {
-    // A whole log.
-    pub fn of(text: &'a [u8]) -> Log<'a>
-        ensures rest { result.rest.now ≡ text.now }
+    // A whole log, by the commands of a vocabulary.
+    pub fn of(vocabulary: Vocabulary, text: &'a [u8]) -> Log<'a>
+        ensures text { text_left result.lines ≡ text.now }
         ensures line { result.line ≡ 0 }
+        ensures vocabulary { result.vocabulary ≡ vocabulary }
     {
         Log {
-            rest: text,
+            vocabulary,
+            lines: Lines::of(text),
             line: 0,
         }
     }
 
     // The next line, if one is left.
     pub fn next_entry(&mut self) -> Option<Entry>
-        ensures value { result ≡ (if nat_eq (length self.old.rest.now) 0 then None else Some (entry_at self.old.rest.now)) }
-        ensures rest { self.new.rest.now ≡ rest_of (behind 10 self.old.rest.now) }
-        ensures line { self.new.line ≡ (if nat_eq (length self.old.rest.now) 0 then self.old.line else min (self.old.line + 1) (2 ^ 64 - 1)) }
+        ensures value { result ≡ (if nat_eq (length (text_left self.old.lines)) 0 then None else Some (entry_at self.old.vocabulary (text_left self.old.lines))) }
+        ensures rest { text_left self.new.lines ≡ after_line (text_left self.old.lines) }
+        ensures line { self.new.line ≡ (if nat_eq (length (text_left self.old.lines)) 0 then self.old.line else min (self.old.line + 1) (2 ^ 64 - 1)) }
+        ensures same { self.new.vocabulary ≡ self.old.vocabulary }
+        ensures shorter { OnSome result (length (text_left self.new.lines) < length (text_left self.old.lines)) }
     {
-        if self.rest.is_empty() {
-            return None;
-        }
-        let cut = cut_at(self.rest, b'\n');
+        let line = self.lines.next()?;
         self.line = self.line.saturating_add(1);
-        self.rest = cut.rest.unwrap_or(&[]);
-        Some(read_entry(cut.front, cut.rest.is_some()))
+        Some(read_entry(self.vocabulary, line))
     }
 
     // Takes so many lines as text, whatever they hold; all that is left where there are fewer.
     // They are counted, and where the log has fewer no line follows that could have a number.
     pub fn take_lines(&mut self, count: u32) -> &'a [u8]
-        ensures text { result.now ≡ first_lines count self.old.rest.now }
-        ensures rest { result.now ++ self.new.rest.now ≡ self.old.rest.now }
+        ensures text { result.now ≡ first_lines count (text_left self.old.lines) }
+        ensures rest { result.now ++ text_left self.new.lines ≡ text_left self.old.lines }
         ensures line { self.new.line ≡ min (self.old.line + count) (2 ^ 64 - 1) }
+        ensures same { self.new.vocabulary ≡ self.old.vocabulary }
     {
-        let all = self.rest;
+        let all = self.lines.rest();
         let end = end_of_lines(all, count);
         self.line = self.line.saturating_add(u64::from(count));
-        self.rest = &all[end..];
+        self.lines = Lines::of(&all[end..]);
         &all[..end]
     }
 }

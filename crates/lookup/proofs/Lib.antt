@@ -1,2 +1,2 @@
-mod Halves
+mod Parting
 pub mod Keeping

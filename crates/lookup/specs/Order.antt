@@ -1,10 +1,11 @@
 -- Records in the order of their keys, and what a search among them finds.
+use Rattle.std.specs.List.{AllPairs}
 use Rattle.std.specs.Prelude.{ℕ, ◌<◌, ◌≤◌, cond, leb, List, [], ◌∷◌, length, Some, None, fold, count_by, Option, ◌==◌, nat_le, slice_index_or}
 use Rattle.std.specs.List.{ContainsAt as Has}
 
 -- the keys rise: each is greater than those before it
 abbrev pub Rising : {X : Type 0} → (X → ℕ) → List X → Type 0
-Rising {X} key xs = (j k : ℕ) (d : X) → j < k → k < length xs → key (slice_index_or xs j d) < key (slice_index_or xs k d)
+Rising key xs = AllPairs (λ x y. key x < key y) xs
 
 -- how many records have a key up to the limit
 abbrev pub how_many_up_to : {X : Type 0} → (X → ℕ) → ℕ → List X → ℕ

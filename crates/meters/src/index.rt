@@ -12,22 +12,16 @@ use calendar::days::is_day;
 // The most days that a meter can have.
 const MOST_DAYS: u16 = 366;
 
-// The most kWh that can lie between two indexes.
+// The most kWh that can lie between two indexes. A limit of the meter: that of a place's year happens to be the same.
 const MOST_KWH: u32 = 4_000_000;
 
 impl IndexMeter {
     // The meter of the days from `first` to `last`, whose index stood at `before` and then at `after`.
     // All of its days together mean just the difference.
+    #[tactic(auto, using(crate::specs::Indexes::index_whole))]
     pub fn new(first: u16, last: u16, before: u32, after: u32) -> Result<IndexMeter, Refusal>
         ensures answer { known result ≡ first_refused (index_table first last before after) (record { first = first; last = last; total = after - before }) }
         ensures whole { IfOk result (λ m. index_means m first last ≡ Some (after - before)) }
-    {
-        Self::checked(first, last, before, after)
-    }
-
-    // The meter, or the first condition that refuses it.
-    fn checked(first: u16, last: u16, before: u32, after: u32) -> Result<IndexMeter, Refusal>
-        ensures { known result ≡ first_refused (index_table first last before after) (record { first = first; last = last; total = after - before }) }
     {
         if !is_day(first) || !is_day(last) || last < first || last - first + 1 > MOST_DAYS {
             return Err(Refusal::BadDay);
@@ -62,6 +56,7 @@ impl Meter for IndexMeter {
     ghost small = { λ m. index_small m.first m.last m.total m.small };
 
     fn kwh(&self, first: u16, last: u16) -> Option<u32> {
+        // by `if`: the closure of a `then` would not know the test
         if self.first <= first && first <= last && last <= self.last {
             let before = self.first_days(first - self.first);
             let through = self.first_days(last - self.first + 1);
@@ -73,13 +68,12 @@ impl Meter for IndexMeter {
 }
 
 // The laws of what a meter with two indexes means.
-pub fn index_laws() -> u8
+#[tactic(auto, using(crate::specs::Indexes::index_first, crate::specs::Indexes::index_early, crate::specs::Indexes::index_late, crate::specs::Shares::share_part))]
+pub fn index_laws()
     ensures part { WholePart }
     ensures firsts { FirstDays }
     ensures outside { OutsideSilent }
-{
-    0
-}
+{}
 
 #[cfg(test)]
 mod tests {

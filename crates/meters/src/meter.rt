@@ -6,6 +6,7 @@ pub trait Meter {
     // kWh from a first day to a last one, or silence
     ghost means: { Self → ℕ → ℕ → Option ℕ };
 
+    // First and last day stand by themselves, as in records and in the log: a span would be taken apart at each.
     fn kwh(&self, first: u16, last: u16) -> Option<u32>
         ensures { result ≡ means self.now first last };
 
@@ -20,8 +21,6 @@ pub trait Meter {
 }
 
 // The law of spans, for all that adds up as a meter does.
-pub fn span_laws() -> u8
+pub fn span_laws()
     ensures { CoveredTold }
-{
-    0
-}
+{}

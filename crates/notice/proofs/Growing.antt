@@ -1,29 +1,22 @@
--- One item more in a table whose dates rise.
-use Rattle.std.proofs.Common.{◌≡◌, ℕ, ◌-◌, ◌<◌, ◌≤◌, Bool, true, false, cond, List, [], ◌∷◌, ◌++◌, length, get_or, sym, ap, subst, ⊎_elim, arith}
-use Rattle.std.proofs.ByRecursion.{All-from_get_or}
-use Rattle.std.proofs.lemmas.Bool.{cases_lt}
+-- One record more in a table.
+use Rattle.std.proofs.Common.{◌≡◌, ℕ, ◌-◌, ◌<◌, Bool, true, false, cond, List, [], ◌∷◌, ◌++◌, length, get_or, Some, None, MatchOption, unwrap_or, Option, sym, ap, ◌∙◌, subst, arith}
+use Rattle.std.specs.Option.{ForSome}
+use Rattle.std.proofs.lemmas.Option.{slice_get-get_or, unwrap_or-slice_get}
 use Rattle.lookup.specs.Order.{Rising}
-use Rattle.sources_more.specs.Lists.{EachTwo}
-use Rattle.sources_more.proofs.Items.{two_push}
+use Rattle.lookup.proofs.Keeping.{rising_push}
+use Rattle.notice.specs.Tabled.{last_of}
 
-module _ {T : Type 0} (date : T → ℕ) (xs : List T) (rises : EachTwo (λ x y. date x < date y) xs) where
-  -- as a search asks it
-  pub rising : Rising date xs
-  rising j k d jk h = rises j k d (jk, h)
-
-  -- no date is later than the last
-  up_to_last : (j : ℕ) (d : T) → j < length xs → date (get_or xs j d) ≤ date (get_or xs (length xs - 1) d)
-  up_to_last j d h =
-      ⊎_elim
-      (λ (below : j < length xs - 1). omega (arith, rises j (length xs - 1) d (below, omega arith)))
-      (λ (above : length xs - 1 ≤ j). let e : j ≡ length xs - 1 = omega arith in omega (arith, ap (λ i. date (get_or xs i d)) e))
-      (cases_lt j (length xs - 1))
-
-  -- a later date; `z` is what the code reads past the end
-  pushed : (x z : T) → date (get_or xs (length xs - 1) z) < date x → EachTwo (λ x y. date x < date y) (xs ++ x ∷ [])
-  pushed x z later = two_push (λ x y. date x < date y) xs x rises (All-from_get_or (λ y. date y < date x) xs z (λ j h. omega (arith, up_to_last j z h)))
-
+module _ {T : Type 0} (key : T → ℕ) (xs : List T) (x : T) where
   -- after a push, whether there was memory or not
-  pub rises_kept : (x z : T) (ys : List T) (done : Bool) → ys ≡ cond done (xs ++ x ∷ []) xs → date (get_or xs (length xs - 1) z) < date x → EachTwo (λ x y. date x < date y) ys
-  rises_kept x z ys true is later = subst (λ (zs : List T). EachTwo (λ x y. date x < date y) zs) (sym is) (pushed x z later)
-  rises_kept x z ys false is later = subst (λ (zs : List T). EachTwo (λ x y. date x < date y) zs) (sym is) rises
+  pub rises_kept : Rising key xs → (ys : List T) (done : Bool) → ys ≡ cond done (xs ++ x ∷ []) xs → ForSome (last_of xs) (λ last. key last < key x) → Rising key ys
+  rises_kept rises ys true is later =
+      subst (λ (zs : List T). Rising key zs) (sym is) (rising_push key xs x rises (λ d some. later (get_or xs (length xs - 1) d) (slice_get-get_or xs (length xs - 1) d (omega arith))))
+  rises_kept rises ys false is later = subst (λ (zs : List T). Rising key zs) (sym is) rises
+
+-- the date of the last record, or that of `z`, which is 0
+pub date_of_last : {T : Type 0} (date : T → ℕ) (xs : List T) (z : T) (o : Option T) (n : ℕ) (Gives : T → Type 0) → date z ≡ 0 → o ≡ last_of xs → MatchOption o (n ≡ 0) Gives → ((x : T) → Gives x → n ≡ date x) → n ≡ date (get_or xs (length xs - 1) z)
+date_of_last {T} date xs z o n Gives zero is given says = read o given ∙ ap date (ap (λ (p : Option T). unwrap_or p z) is ∙ unwrap_or-slice_get xs (length xs - 1) z)
+  where
+    read : (p : Option T) → MatchOption p (n ≡ 0) Gives → n ≡ date (unwrap_or p z)
+    read None none = none ∙ sym zero
+    read (Some x) gives = says x gives

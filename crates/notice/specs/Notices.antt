@@ -1,11 +1,11 @@
 -- What a notice states. Assumes nothing.
-use Rattle.std.specs.Prelude.{◌≡◌, ℕ, ◌+◌, ◌-◌, ◌<◌, Bool, cond, not, ◌&&◌, List, [], ◌∷◌, ◌++◌, length, Ok, Err, vec_items, Result, ◌==◌, nat_lt, slice_index_or}
+use Rattle.std.specs.Prelude.{ℕ, ◌+◌, ◌-◌, cond, not, ◌&&◌, List, [], ◌∷◌, length, Ok, Err, Result, ◌==◌, nat_lt, slice_index_or}
 use Rattle.text.specs.Pieces.{split}
 use Rattle.text.specs.Taken.{is_none}
-use Rattle.sources_more.specs.declared.figures.QuotaFrom.{QuotaFrom}
-use Rattle.sources_more.specs.declared.figures.MonthPrice.{MonthPrice}
-use Rattle.sources_more.specs.declared.figures.FinalPair.{FinalPair}
-use Rattle.sources_more.specs.Figures.{last_day, month_at}
+use Rattle.sources.specs.declared.figures.MonthPrice.{MonthPrice}
+use Rattle.sources.specs.declared.figures.FinalPair.{FinalPair}
+use Rattle.sources.specs.Board.{Figures, nothing, with_pair, with_price, with_quota}
+use Rattle.sources.specs.Figures.{last_day, month_at}
 use Rattle.amounts.specs.declared.refusal.Refusal.{Refusal}
 use Rattle.amounts.specs.declared.refusal.Refusal.TheVariants.{FaultyNotice}
 use Rattle.notice.specs.declared.held.Notice.{Notice}
@@ -14,23 +14,14 @@ use Rattle.notice_text.specs.declared.entry.Entry.{Entry}
 use Rattle.notice_text.specs.declared.entry.Entry.TheVariants.{Quota, Price, Final}
 use Rattle.notice.specs.declared.tables.Tables.{Tables}
 use Rattle.notice.specs.declared.tables.Place.{Place}
+use Rattle.notice.specs.Tabled.{records_of}
 use Rattle.notice_text.specs.Lines.{line_entry}
-
--- quotas, prices and final pairs, each kind in the order of its lines
-pub record Figures : Type 0 where
-  pub quotas : List QuotaFrom
-  pub prices : List MonthPrice
-  pub pairs : List FinalPair
-
--- no figures
-abbrev pub nothing : Figures
-nothing = record { quotas = []; prices = []; pairs = [] }
 
 -- one entry more, after the others of its letter
 abbrev pub with_entry : Entry → Figures → Figures
-with_entry (Quota q) f = record { quotas = f.quotas ++ q ∷ []; prices = f.prices; pairs = f.pairs }
-with_entry (Price p) f = record { quotas = f.quotas; prices = f.prices ++ p ∷ []; pairs = f.pairs }
-with_entry (Final y) f = record { quotas = f.quotas; prices = f.prices; pairs = f.pairs ++ y ∷ [] }
+with_entry (Quota q) f = with_quota q f
+with_entry (Price p) f = with_price p f
+with_entry (Final y) f = with_pair y f
 
 -- the last month and the last year; 0 before any is
 abbrev pub last_month : List MonthPrice → ℕ
@@ -64,7 +55,7 @@ read_notice t = cond (nat_lt 65536 (length t)) (Err (record { line = 0; field = 
 
 -- the figures in tables
 abbrev pub figures : Tables → Figures
-figures t = record { quotas = vec_items t.quotas; prices = vec_items t.prices; pairs = vec_items t.pairs }
+figures t = record { quotas = records_of t.quotas; prices = records_of t.prices; pairs = records_of t.pairs }
 
 -- what was found of a notice
 abbrev pub stated : Result Tables Place → Result Figures Place
@@ -84,9 +75,3 @@ checked (Err p) = Err (FaultyNotice p.line p.field)
 abbrev pub tells : Result Figures Place → Figures
 tells (Ok f) = f
 tells (Err p) = nothing
-
--- a text begins with this line, that has its byte 10 or lacks it, and goes on with the rest
-pub record Begins (t line : List ℕ) (ended : Bool) (rest : List ℕ) : Type 0 where
-  pub shorter : length rest < length t
-  pub reads : (n : ℕ) (f : Figures) →
-      read_lines n f (pieces t) ≡ on_line n (line_entry ended (last_dates f) line) (λ e. read_lines (n + 1) (with_entry e f) (pieces rest))

@@ -5,6 +5,7 @@ mod asking;
 pub mod held;
 mod keeping;
 mod lines;
+mod table;
 mod tables;
 mod telling;
 

@@ -1,6 +1,6 @@
 // Examples and edges.
 use super::held::Notice;
-use sources_more::{Current, YearEnd};
+use sources::{Current, YearEnd};
 use std::alloc::Global;
 use std::process::Abort;
 use std::test::Fail;

@@ -8,7 +8,8 @@ use Rattle.notice_text.specs.declared.entry.Entry.{Entry}
 use Rattle.notice_text.specs.Lines.{line_entry}
 use Rattle.notice_text.proofs.Inverting.{line_follows}
 use Rattle.notice.specs.declared.tables.Place.{Place}
-use Rattle.notice.specs.Notices.{Figures, last_dates, nothing, on_line, pieces, read_lines, read_notice, with_entry}
+use Rattle.sources.specs.Board.{Figures, nothing}
+use Rattle.notice.specs.Notices.{last_dates, on_line, pieces, read_lines, read_notice, with_entry}
 use Rattle.notice_laws.specs.Stating.{entry_line, told, written, Lawful, LawfulEntry, States}
 use Rattle.notice_laws.specs.Laws.{FaultyAt, TooLong}
 use Rattle.notice_laws.proofs.Splitting.{some_left, some_piece, split_at, split-whole, with_byte}

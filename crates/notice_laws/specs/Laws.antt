@@ -6,7 +6,8 @@ use Rattle.notice_text.specs.declared.entry.Dates.{Dates}
 use Rattle.notice_text.specs.declared.entry.Entry.{Entry}
 use Rattle.notice_text.specs.Lines.{line_entry}
 use Rattle.notice.specs.declared.tables.Place.{Place}
-use Rattle.notice.specs.Notices.{Figures, last_dates, nothing, pieces, read_notice}
+use Rattle.sources.specs.Board.{Figures, nothing}
+use Rattle.notice.specs.Notices.{last_dates, pieces, read_notice}
 use Rattle.notice_laws.specs.Stating.{entry_line, told, Lawful, States}
 
 -- a text that is too long is refused whole

@@ -8,7 +8,8 @@ use Rattle.calendar.specs.Dates.{date_text, month_text, year_text}
 use Rattle.notice_text.specs.declared.entry.Entry.{Entry}
 use Rattle.notice_text.specs.declared.entry.Entry.TheVariants.{Quota, Price, Final}
 use Rattle.notice_text.specs.Lines.{Follows}
-use Rattle.notice.specs.Notices.{Figures, last_dates, nothing, with_entry}
+use Rattle.sources.specs.Board.{Figures, nothing}
+use Rattle.notice.specs.Notices.{last_dates, with_entry}
 
 -- the fields of the line that states an entry
 abbrev pub entry_fields : Entry → List (List ℕ)

@@ -4,8 +4,6 @@
 ghost use Rattle.notice_laws.specs.Laws.{NoticeLaws};
 
 // States what holds of every notice; it does nothing.
-pub fn notice_laws() -> u8
+pub fn notice_laws()
     ensures { NoticeLaws }
-{
-    0
-}
+{}

@@ -1,4 +1,4 @@
-use sources_more::figures::{FinalPair, MonthPrice, QuotaFrom};
+use sources::figures::{FinalPair, MonthPrice, QuotaFrom};
 
 // What one line of a notice states.
 #[derive(Clone, Copy)]
@@ -8,7 +8,11 @@ pub enum Entry {
     Final(FinalPair),
 }
 
-// The last day, month and year that a notice has stated so far, each 0 before there is one.
+// Why a line is refused: the number of its first faulty field, counted from 1. A count, and no code for a kind of fault:
+// the answer names the field by it.
+pub type FaultyField = u32;
+
+// The last day, month and year that a notice has stated so far. Before there is one it is 0, which every date is later than.
 #[derive(Clone, Copy)]
 pub struct Dates {
     pub day: u16,

@@ -5,5 +5,5 @@ pub mod entry;
 mod line;
 mod reading;
 
-pub use entry::{Dates, Entry};
+pub use entry::{Dates, Entry, FaultyField};
 pub use reading::read_line;

@@ -4,10 +4,11 @@ use Rattle.std.specs.Option.{option_map}
 use Rattle.std.proofs.lemmas.List.{get_or-map, map-set}
 use Rattle.std.proofs.lemmas.Bool.{cond-false}
 use Rattle.amounts.specs.declared.refusal.Refusal.{Refusal}
+use Rattle.answers.specs.Answers.{plainly}
 use Rattle.answers.specs.declared.answer.Answer.{Answer}
 use Rattle.meters.specs.Register.{read_hour, readings}
 use Rattle.meters.specs.declared.register.held.Register.{Register}
-use Rattle.office.specs.Registers.{by_id, plainly, read_into, read_register, register_of}
+use Rattle.office.specs.Registers.{by_id, read_into, read_register, register_of}
 use Rattle.office.specs.declared.registers.Registers.{Registers}
 
 pub kept_one : (rs : Registers) (id : ℕ) (r : Register) → by_id (record { list = set rs.list id (Some r) }) ≡ set (by_id rs) id (Some (readings r))

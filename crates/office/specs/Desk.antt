@@ -5,24 +5,26 @@ use Rattle.amounts.specs.declared.refusal.Refusal.{Refusal}
 use Rattle.amounts.specs.Tables.{Outcome, first_refused}
 use Rattle.meters.specs.Index.{Known, index_kwh, index_table}
 use Rattle.meters.specs.Register.{Readings, register_kwh}
-use Rattle.notice.specs.Notices.{Figures as Stated, checked, read_notice, says, tells}
+use Rattle.notice.specs.Notices.{checked, read_notice, says, tells}
 use Rattle.notice.specs.declared.tables.Place.{Place}
-use Rattle.sources_more.specs.Board.{Figures, figures, forget, nothing, tell_final, tell_price, tell_quota}
-use Rattle.sources_more.specs.Figures.{price_of, quota_on}
+use Rattle.sources.specs.Board.{Figures, figures, forget, nothing, tell_final, tell_price, tell_quota}
+use Rattle.sources.specs.Figures.{price_of, quota_on}
 use Rattle.books.specs.declared.enrolment.Enrolment.{Enrolment}
 use Rattle.books.specs.Roll.{enrol_outcome, enrolled, places}
 use Rattle.rules.specs.declared.types.Supply.{Supply}
 use Rattle.rules.specs.Books.{Books, balance}
 use Rattle.rules.specs.Issue.{asked, issue}
+use Rattle.journal.specs.Model.{model}
+use Rattle.answers.specs.Answers.{numbered, plainly}
 use Rattle.answers.specs.declared.answer.Answer.{Answer}
 use Rattle.answers.specs.declared.answer.Answer.TheVariants.{Taken, Number, Amount, Refused, Bad}
-use Rattle.commands_more.specs.declared.command.Command.{Command}
-use Rattle.commands_more.specs.declared.command.Command.TheVariants.{Setup, Enrol, Quota, Price, Final, Forget, Board, Notice, Register, Hour, Issue, Balance, Lines, Intervals}
-use Rattle.commands_more.specs.declared.command.IndexReading.{IndexReading}
-use Rattle.commands_more.specs.declared.command.MeterField.{MeterField}
-use Rattle.commands_more.specs.declared.command.MeterField.TheVariants.{Index, Register as ByRegister}
+use Rattle.commands.specs.declared.command.Command.{Command}
+use Rattle.commands.specs.declared.command.Command.TheVariants.{Setup, Enrol, Quota, Price, Final, Forget, Board, Notice, Register, Hour, Issue, Balance, Lines, Intervals}
+use Rattle.commands.specs.declared.command.IndexReading.{IndexReading}
+use Rattle.commands.specs.declared.command.MeterField.{MeterField}
+use Rattle.commands.specs.declared.command.MeterField.TheVariants.{Index, Register as ByRegister}
 use Rattle.office.specs.declared.office.Office.{Office}
-use Rattle.office.specs.Registers.{by_id, no_registers, numbered, open_register, plainly, read_register, register_of}
+use Rattle.office.specs.Registers.{by_id, no_registers, open_register, read_register, register_of}
 
 -- the journal's books, what each place is enrolled with, what the board was told, what the registers have read,
 -- and what the notice says that is the source in the board's place, if one is
@@ -31,12 +33,12 @@ pub record Desk : Type 0 where
   pub roll : List (Option Enrolment)
   pub board : Figures
   pub registers : List (Option Readings)
-  pub notice : Option (Result Stated Place)
+  pub notice : Option (Result Figures Place)
 
--- books of a journal, and what an office keeps beside them
-abbrev pub desk_of : Books → Office → Desk
-desk_of books office = record {
-  books = books;
+-- what an office holds
+abbrev pub desk : Office → Desk
+desk office = record {
+  books = model office.journal;
   roll = places office.roll;
   board = figures office.board;
   registers = by_id office.registers;
@@ -48,7 +50,7 @@ abbrev pub new_desk : Books → Desk
 new_desk books = record { books = books; roll = replicate 250 None; board = nothing; registers = no_registers; notice = None }
 
 -- another source
-abbrev pub by_source : Option (Result Stated Place) → Desk → Desk
+abbrev pub by_source : Option (Result Figures Place) → Desk → Desk
 by_source notice d = record { books = d.books; roll = d.roll; board = d.board; registers = d.registers; notice = notice }
 
 -- an answer, and the desk after it
@@ -69,11 +71,11 @@ abbrev pub on_books : Outcome ℕ Books → Desk → Obeyed
 on_books o d = (numbered o.0, record { books = o.1; roll = d.roll; board = d.board; registers = d.registers; notice = d.notice })
 
 -- the quota of a day and the price of a month, by the notice where one is the source, and else by the board
-abbrev pub quota_by : Option (Result Stated Place) → Figures → ℕ → Option ℕ
+abbrev pub quota_by : Option (Result Figures Place) → Figures → ℕ → Option ℕ
 quota_by None board = quota_on board.quotas
 quota_by (Some said) board = quota_on (tells said).quotas
 
-abbrev pub price_by : Option (Result Stated Place) → Figures → ℕ → Option ℕ
+abbrev pub price_by : Option (Result Figures Place) → Figures → ℕ → Option ℕ
 price_by None board = price_of board.prices
 price_by (Some said) board = price_of (tells said).prices
 

@@ -4,8 +4,9 @@ use Rattle.std.specs.Option.{option_map}
 use Rattle.amounts.specs.declared.refusal.Refusal.{Refusal}
 use Rattle.amounts.specs.Tables.{first_refused}
 use Rattle.meters.specs.Register.{Readings, readings, read_hour, register_table, unread}
+use Rattle.answers.specs.Answers.{plainly}
 use Rattle.answers.specs.declared.answer.Answer.{Answer}
-use Rattle.answers.specs.declared.answer.Answer.TheVariants.{Taken, Number, Refused, Bad}
+use Rattle.answers.specs.declared.answer.Answer.TheVariants.{Taken, Refused, Bad}
 use Rattle.office.specs.declared.registers.Registers.{Registers}
 
 -- what is read so far in the register of each ID, 0 to 15, where there is one
@@ -15,16 +16,6 @@ by_id r = map (option_map readings) r.list
 -- no ID has a register
 abbrev pub no_registers : List (Option Readings)
 no_registers = replicate 16 None
-
--- a call without a result: taken, or its refusal
-abbrev pub plainly : Result (Unit {0}) Refusal → Answer
-plainly (Ok u) = Taken
-plainly (Err e) = Refused e
-
--- a call that gives a number
-abbrev pub numbered : Result ℕ Refusal → Answer
-numbered (Ok n) = Number n
-numbered (Err e) = Refused e
 
 -- a new register is kept in the place of the one before; a refusal keeps that one
 abbrev pub kept_under : ℕ → Result Readings Refusal → List (Option Readings) → Answer × List (Option Readings)

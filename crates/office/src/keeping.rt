@@ -4,32 +4,23 @@ ghost use Rattle.std.specs.Option.{option_map};
 ghost use Rattle.meters.specs.Register.{readings};
 ghost use Rattle.office.specs.Registers.{by_id, no_registers, open_register, read_register, register_of};
 
-use super::plain::plain_answer;
-use super::registers::Registers;
+use super::registers::{IDS, Registers};
 use answers::Answer;
 use meters::Register;
-
-// IDs of registers are below it.
-const IDS: u8 = 16;
 
 impl Registers {
     // No register.
     pub(crate) fn none() -> Registers
         ensures { by_id result ≡ no_registers }
     {
-        Registers {
-            list: [
-                None, None, None, None, None, None, None, None, None, None, None, None, None, None,
-                None, None,
-            ],
-        }
+        Registers { list: [None; IDS] }
     }
 
     // Keeps a new register in the place of the one before, which stays where the new one is refused.
     pub(crate) fn begin(&mut self, id: u8, year: u16) -> Answer
         ensures { (result, by_id self.new) ≡ open_register id year (by_id self.old) }
     {
-        if id >= IDS {
+        if usize::from(id) >= IDS {
             return Answer::Bad;
         }
         match Register::new(year) {
@@ -48,20 +39,17 @@ impl Registers {
         let Some(register) = self.kept(id) else {
             return Answer::Bad;
         };
+        // Read as a copy: in place, what the list holds after it was not proved
         let mut read = register;
-        let answer = plain_answer(read.read_hour(day, hour, kwh));
+        let answer = Answer::from(read.read_hour(day, hour, kwh));
         self.list[usize::from(id)] = Some(read);
         answer
     }
 
-    // The register of an ID, if there is one.
+    // The register of an ID, if there is one: a copy, since an issue changes the office that lends it.
     pub(crate) fn kept(&self, id: u8) -> Option<Register>
         ensures { option_map readings result ≡ register_of id (by_id self.now) }
     {
-        if id >= IDS {
-            return None;
-        }
-        let slot = &self.list[usize::from(id)];
-        *slot
+        *self.list.get(usize::from(id))?
     }
 }

@@ -1,11 +1,13 @@
 use super::registers::Registers;
 use books::Roll;
+use journal::Journal;
 use notice::Notice;
-use sources_more::Board;
+use sources::Board;
 
-// What an office keeps beside its journal.
+// An office: its journal, and what it keeps beside it.
 #[derive(Drop)]
-pub struct Office {
+pub struct Office<'a> {
+    pub(crate) journal: Journal<'a>,
     pub(crate) roll: Roll,
     pub(crate) board: Board,
     pub(crate) registers: Registers,

@@ -2,6 +2,5 @@ pub mod Extending
 pub mod Growing
 pub mod Parting
 pub mod Monthly
-pub mod Counting
 pub mod Adding
 pub mod Telling

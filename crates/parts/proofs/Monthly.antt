@@ -1,23 +1,33 @@
 -- One month more of those that are asked for a price, and what all of them tell.
-use Rattle.std.proofs.Common.{◌≡◌, ℕ, zero, suc, ◌+◌, ◌-◌, ◌<◌, ◌≤◌, leb, Some, None, Option, refl, ap, ◌∙◌, ⊎_elim, arith}
-use Rattle.std.proofs.lemmas.Bool.{cases_eq, cond_both, cond-true, cond-false, le-leb, leb-false, leb-true, lt-leb}
+use Rattle.std.proofs.Common.{◌≡◌, ℕ, zero, suc, ◌-◌, ◌<◌, ◌≤◌, max, leb, Some, None, Option, refl, ap, ◌∙◌, ⊎_elim, arith}
+use Rattle.std.proofs.lemmas.Bool.{cases_eq, cases_lt, cond_both, cond-true, cond-false, le-leb, leb-false, leb-true, lt-leb}
 use Rattle.parts.specs.declared.pricing.Priced.{Priced}
 use Rattle.parts.specs.Pricing.{LatestOrNone, latest_priced, priced_at}
 
-module _ (price : ℕ → Option ℕ) (m i : ℕ) (left : i < 24) where
-  one : 24 - i ≡ suc (24 - (i + 1))
-  one = omega arith
+-- month m is the next to be passed on the way down from the month of issue
+module _ (price : ℕ → Option ℕ) (m issued : ℕ) where
+  pub no-month : m ≤ max (issued - 24) 1 → latest_priced price m (24 - (issued - m)) ≡ None
+  no-month h =
+      ⊎_elim
+      (λ later. let none : 24 - (issued - m) ≡ 0 = omega arith in ap (latest_priced price m) none)
+      (λ first. none_before (24 - (issued - m)) first)
+      (cases_lt 1 m)
+    where
+      none_before : (n : ℕ) → m ≤ 1 → latest_priced price m n ≡ None
+      none_before zero first = refl
+      none_before (suc n) first = cond-true _ _ _ (le-leb m 1 first)
 
-  pub first-month : m ≤ 1 → latest_priced price m (24 - i) ≡ None
-  first-month h = ap (latest_priced price m) one ∙ cond-true _ _ _ (le-leb m 1 h)
+  module _ (left : max (issued - 24) 1 < m) (known : m ≤ issued) where
+    next : latest_priced price m (24 - (issued - m)) ≡ priced_at (m - 1) (price (m - 1)) (latest_priced price (m - 1) (24 - (issued - (m - 1))))
+    next =
+        let one : 24 - (issued - m) ≡ suc (24 - (issued - (m - 1))) = omega arith in
+        ap (latest_priced price m) one ∙ cond-false _ _ _ (lt-leb m 1 (omega arith))
 
-  pub told-month : (p : ℕ) → 1 < m → price (m - 1) ≡ Some p → latest_priced price m (24 - i) ≡ Some (record { month = m - 1; price = p })
-  told-month p h e =
-      ap (latest_priced price m) one ∙ cond-false _ _ _ (lt-leb m 1 h) ∙ ap (λ o. priced_at (m - 1) o (latest_priced price (m - 1) (24 - (i + 1)))) e
+    pub told-month : (p : ℕ) → price (m - 1) ≡ Some p → latest_priced price m (24 - (issued - m)) ≡ Some (record { month = m - 1; price = p })
+    told-month p e = next ∙ ap (λ o. priced_at (m - 1) o (latest_priced price (m - 1) (24 - (issued - (m - 1))))) e
 
-  pub silent-month : 1 < m → price (m - 1) ≡ None → latest_priced price m (24 - i) ≡ latest_priced price (m - 1) (24 - (i + 1))
-  silent-month h e =
-      ap (latest_priced price m) one ∙ cond-false _ _ _ (lt-leb m 1 h) ∙ ap (λ o. priced_at (m - 1) o (latest_priced price (m - 1) (24 - (i + 1)))) e
+    pub silent-month : price (m - 1) ≡ None → latest_priced price m (24 - (issued - m)) ≡ latest_priced price (m - 1) (24 - (issued - (m - 1)))
+    silent-month e = next ∙ ap (λ o. priced_at (m - 1) o (latest_priced price (m - 1) (24 - (issued - (m - 1))))) e
 
 module _ (price : ℕ → Option ℕ) where
   -- one month more before those that were asked

@@ -16,6 +16,11 @@ pub const BLANK: Part = Part {
     charged: 0,
 };
 
+pub const NO_PARTS: Parts = Parts {
+    count: 0,
+    list: [BLANK; 4],
+};
+
 impl Part {
     // The part goes on to the last day of another.
     fn until(self, other: Part) -> Part
@@ -33,10 +38,7 @@ impl Parts {
     pub fn none() -> Parts
         ensures { result ≡ packed [] }
     {
-        Parts {
-            count: 0,
-            list: [BLANK; 4],
-        }
+        NO_PARTS
     }
 
     // The parts with one day more behind them, or nothing where that makes a fifth.
@@ -71,20 +73,17 @@ fn continues(part: Part, day: Part) -> bool
     part.quota == day.quota && part.percent == day.percent
 }
 
+// By first day and count, as the definition of a cut goes: from first to last it would be another.
+
 // The source is silent for one of `count` days from `first` on.
 pub fn is_silent_within<S: Current>(source: &S, first: u16, count: u16) -> bool
     requires { first + count ≤ 65535 }
     ensures { result ≡ silent_within (S.quota source.now) first count }
 {
-    for offset in 0..count {
-        if source.quota_on(first + offset).is_none() {
-            return true;
-        }
-    }
-    false
+    (first..first + count).any(|day| source.quota_on(day).is_none())
 }
 
-// One day as a part of its own. A silent day's quota counts as 0.
+// One day as a part of its own. A silent day's quota counts as 0, which never shows: an issue is refused before.
 fn day_alone<S: Current>(source: &S, enrolment: Enrolment, day: u16) -> Part
     ensures { result ≡ day_part (S.quota source.now) (percent_on enrolment) day }
 {
@@ -109,26 +108,18 @@ pub fn cut_days<S: Current>(
     ensures { result ≡ fitted (cut (S.quota source.now) (percent_on enrolment) first count) }
 {
     let mut parts = Parts::none();
-    for offset in 0..count {
-        let day = day_alone(source, enrolment, first + offset);
-        let Some(longer) = parts.extended(day) else {
-            return None;
-        };
-        parts = longer;
+    for day in first..first + count {
+        parts = parts.extended(day_alone(source, enrolment, day))?;
     }
     Some(parts)
 }
 
 // The parts of any days cover them in order, are constant in quota and percent, and neighbours differ.
-pub fn cutting_laws() -> u8
+pub fn cutting_laws()
     ensures { CutParts }
-{
-    0
-}
+{}
 
 // Where the source is silent for none of the days, it tells the quota of each part on each of its days.
-pub fn telling_laws() -> u8
+pub fn telling_laws()
     ensures { CutTells }
-{
-    0
-}
+{}

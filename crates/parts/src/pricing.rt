@@ -3,7 +3,7 @@ ghost use Rattle.parts.specs.Pricing.{LatestOf24, price_month_of};
 
 use sources::current::Current;
 
-// A month and the price told for it.
+// A month and the price that a source of any kind told for it; a `MonthPrice` is what a board was told.
 #[derive(Clone, Copy, PartialEq, Debug)]
 pub struct Priced {
     pub month: u16,
@@ -18,12 +18,8 @@ const MONTHS_BACK: u16 = 24;
 pub fn latest_price<S: Current>(source: &S, issued: u16) -> Option<Priced>
     ensures { result ≡ price_month_of (S.price source.now) issued }
 {
-    let mut month = issued;
-    for asked in 0..MONTHS_BACK {
-        if month <= 1 {
-            return None;
-        }
-        month -= 1;
+    let first = issued.saturating_sub(MONTHS_BACK).max(1);
+    for month in (first..issued).rev() {
         if let Some(price) = source.price_of(month) {
             return Some(Priced { month, price });
         }
@@ -32,8 +28,6 @@ pub fn latest_price<S: Current>(source: &S, issued: u16) -> Option<Priced>
 }
 
 // The price month is the latest priced one of the 24 before the month of issue, and is missing only where all of them are silent.
-pub fn pricing_laws() -> u8
+pub fn pricing_laws()
     ensures { LatestOf24 }
-{
-    0
-}
+{}

@@ -9,7 +9,9 @@ pub struct Part {
     pub charged: u32,
 }
 
-// At most four parts, in the order of their days. Entries behind the count are blank.
+// At most four parts, in the order of their days; entries behind the count are not looked at.
+// An array and a count: records are copied into storage that the caller lends, and an `ArrayVec` is no `Copy`. No
+// invariant keeps the count, since that would ask more of who lends storage.
 #[derive(Clone, Copy)]
 pub struct Parts {
     pub count: u8,

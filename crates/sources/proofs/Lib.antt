@@ -1,2 +1,3 @@
-pub mod Prices
+pub mod Items
 pub mod Quotas
+pub mod Tables

@@ -1,19 +1,19 @@
-ghost use Rattle.std.specs.Prelude.{◌≡◌, if◌then◌else◌, Some, nat_le};
+ghost use Rattle.std.specs.Prelude.{◌≡◌};
 ghost use Rattle.sources.specs.Board.{figures};
-ghost use Rattle.sources.specs.Figures.{quota_on, price_of};
+ghost use Rattle.sources.specs.Figures.{holding, quota_on, price_of, pair_of};
 
 use super::current::Current;
-use super::figures::QuotaFrom;
+use super::figures::{QuotaFrom, YearFigures};
 use super::held::Board;
+use super::year_end::YearEnd;
+use lookup::last_up_to;
 
-// The day's quota: that of `told` from its day on, and else the one found among those told before it.
-fn replaced(found: Option<u32>, told: QuotaFrom, day: u16) -> Option<u32>
-    ensures { result ≡ (if nat_le told.from day then Some told.quota else found) }
-{
-    if told.from <= day {
-        Some(told.quota)
-    } else {
-        found
+impl Board {
+    // The quota that holds on the day, with the day from which it holds.
+    pub(crate) fn holding(&self, day: u16) -> Option<QuotaFrom>
+        ensures { result ≡ holding (figures self.now).quotas day }
+    {
+        last_up_to(self.quotas.as_slice(), u64::from(day))
     }
 }
 
@@ -23,20 +23,18 @@ impl Current for Board {
     ghost price = { λ b m. price_of (figures b).prices m };
 
     fn quota_on(&self, day: u16) -> Option<u32> {
-        let mut found = None;
-        for i in 0..self.quotas.len() {
-            found = replaced(found, self.quotas.get(i), day);
-        }
-        found
+        self.holding(day).map(|told| told.quota)
     }
 
     fn price_of(&self, month: u16) -> Option<u32> {
-        for i in 0..self.prices.len() {
-            let told = self.prices.get(i);
-            if told.month == month {
-                return Some(told.price);
-            }
-        }
-        None
+        self.prices.find(month).map(|told| told.price)
+    }
+}
+
+impl YearEnd for Board {
+    ghost closing = { λ b y. pair_of (figures b).pairs y };
+
+    fn closing_of(&self, year: u16) -> Option<YearFigures> {
+        self.pairs.find(year).map(|told| told.figures)
     }
 }

@@ -1,27 +1,29 @@
-ghost use Rattle.std.specs.Prelude.{◌≡◌, ◌<◌, false, length, is_some};
-ghost use Rattle.sources.specs.Board.{figures, nothing, with_quota, with_price, tell_quota, tell_price};
-ghost use Rattle.sources.specs.Figures.{price_of, last_day};
+ghost use Rattle.std.specs.Prelude.{◌≡◌, ◌<◌, nat_le};
+ghost use Rattle.sources.specs.Board.{figures, nothing, tell_quota, tell_price, tell_final};
+ghost use Rattle.sources.specs.Figures.{last_day};
 
-use super::current::Current;
-use super::figures::{MonthPrice, QuotaFrom};
+use super::figures::{FinalPair, MonthPrice, QuotaFrom, YearFigures};
 use super::held::Board;
-use super::kept::Kept;
+use super::told::Told;
 use amounts::Refusal;
 use amounts::figures::{is_lawful_price, is_lawful_quota};
-use calendar::days::{is_day, is_month};
+use calendar::days::{is_day, is_month, is_year};
 
+// What is told is refused in the order of its own table, so each `tell` reads as its table does.
 impl Board {
     // A board that was told nothing.
     pub fn new() -> Board
         ensures { figures result ≡ nothing }
     {
         Board {
-            quotas: Kept::new(QuotaFrom { from: 0, quota: 0 }),
-            prices: Kept::new(MonthPrice { month: 0, price: 0 }),
+            quotas: Told::new(),
+            prices: Told::new(),
+            pairs: Told::new(),
         }
     }
 
     // Takes the quota that holds from the day on, which is later than that of any quota told before.
+    #[tactic(auto, using(crate::proofs::Quotas::rising_push))]
     pub fn tell_quota(&mut self, day: u16, quota: u32) -> Result<(), Refusal>
         ensures { (result, figures self.new) ≡ tell_quota day quota (figures self.old) }
     {
@@ -31,10 +33,10 @@ impl Board {
         if self.quotas.is_full() {
             return Err(Refusal::NoRoom);
         }
-        if !is_lawful_quota(quota) || day <= self.last_day() {
+        if !is_lawful_quota(quota) || self.is_told_from(day) {
             return Err(Refusal::BadFigure);
         }
-        self.keep_quota(QuotaFrom { from: day, quota });
+        self.quotas.push(QuotaFrom { from: day, quota });
         Ok(())
     }
 
@@ -48,38 +50,39 @@ impl Board {
         if self.prices.is_full() {
             return Err(Refusal::NoRoom);
         }
-        if !is_lawful_price(price) || self.price_of(month).is_some() {
+        if !is_lawful_price(price) || self.prices.find(month).is_some() {
             return Err(Refusal::BadFigure);
         }
-        self.keep_price(MonthPrice { month, price });
+        self.prices.push(MonthPrice { month, price });
         Ok(())
     }
 
-    // Keeps a quota from a later day than that of any other.
-    fn keep_quota(&mut self, told: QuotaFrom)
-        requires { (length (figures self.old).quotas < 16) × (last_day (figures self.old).quotas < told.from) }
-        ensures { figures self.new ≡ with_quota told (figures self.old) }
+    // Takes the final quota and the market price of a year that has none yet.
+    pub fn tell_final(&mut self, year: u16, quota: u32, price: u32) -> Result<(), Refusal>
+        ensures { (result, figures self.new) ≡ tell_final year quota price (figures self.old) }
     {
-        self.quotas.push(told);
-    }
-
-    // Keeps the price of a month that has none.
-    fn keep_price(&mut self, told: MonthPrice)
-        requires { (length (figures self.old).prices < 48) × (is_some (price_of (figures self.old).prices told.month) ≡ false) }
-        ensures { figures self.new ≡ with_price told (figures self.old) }
-    {
-        self.prices.push(told);
-    }
-
-    // The day of the last quota told, or 0, which is before every day.
-    fn last_day(&self) -> u16
-        ensures { result ≡ last_day (figures self.now).quotas }
-    {
-        let count = self.quotas.len();
-        if count == 0 {
-            0
-        } else {
-            self.quotas.get(count - 1).from
+        if !is_year(year) {
+            return Err(Refusal::YearNotServed);
         }
+        if self.pairs.is_full() {
+            return Err(Refusal::NoRoom);
+        }
+        if !(is_lawful_quota(quota) && is_lawful_price(price)) || self.pairs.find(year).is_some() {
+            return Err(Refusal::BadFigure);
+        }
+        let figures = YearFigures { quota, price };
+        self.pairs.push(FinalPair { year, figures });
+        Ok(())
+    }
+
+    // Is a quota of the day or of a later one told?
+    fn is_told_from(&self, day: u16) -> bool
+        requires { 0 < day }
+        ensures { result ≡ nat_le day (last_day (figures self.now).quotas) }
+    {
+        self.quotas
+            .as_slice()
+            .last()
+            .is_some_and(|last| day <= last.from)
     }
 }

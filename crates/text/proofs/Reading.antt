@@ -1,5 +1,5 @@
 -- When a text is a number, and that writing and reading agree. Assumes nothing.
-use Rattle.std.proofs.Common.{◌≡◌, ℕ, ◌+◌, ◌-◌, ◌*◌, ◌^◌, ◌<◌, ◌≤◌, Bool, true, false, cond, not, ◌&&◌, ◌||◌, eqb, ltb, List, length, get_or, Some, None, Ok, Err, IsUtf8, decimal, fold, Option, Result, sym, refl, ap, ◌∙◌, subst, inl, inr, ⊎_elim, arith, rules}
+use Rattle.std.proofs.Common.{◌≡◌, ℕ, ◌+◌, ◌-◌, ◌*◌, ◌^◌, ◌<◌, ◌≤◌, true, false, ◌&&◌, ltb, List, length, get_or, Some, None, Ok, Err, IsUtf8, decimal, fold, Result, Bor, MatchResult, sym, ap, ◌∙◌, subst, ⊎_elim, arith, rules}
 use Rattle.std.specs.Result.{OkIff, result_ok}
 use Rattle.std.specs.Str.Parse.{ParsesUnsigned}
 use Rattle.std.specs.Str.{all_ascii_digits}
@@ -43,8 +43,18 @@ pub plus-first : (t : List ℕ) → get_or t 0 0 ≡ 43 → number t ≡ None
 plus-first t e = number_none t (λ u d l. not_in_digits own t 43 d (λ h. search rules) 0 (grind (arith, nat_tests)) e)
 
 -- a text that is no UTF-8 has a byte that is no digit
-pub no_text : (t : List ℕ) → (IsUtf8 t → ⊥) → number t ≡ None
+no_text : (t : List ℕ) → (IsUtf8 t → ⊥) → number t ≡ None
 no_text t no' = number_none t (λ u d l. no' (IsUtf8-from_ascii t (IsAscii-from_digits t (own.to t d))))
+
+-- the same, as the code reads the check of a text
+module _ {E : Type 0} (t : List ℕ) (Q : E → Type 0) where
+  pub no_text_read : (r : Result (Bor (List ℕ)) E) → result_ok r ≡ None → MatchResult r (λ s. (s.now ≡ t) × IsUtf8 t) (λ e. (IsUtf8 t → ⊥) × Q e) → number t ≡ None
+  no_text_read (Ok s) none told = cc
+  no_text_read (Err e) none told = no_text t told.0
+
+  pub text_read : (r : Result (Bor (List ℕ)) E) (s : Bor (List ℕ)) → result_ok r ≡ Some s → MatchResult r (λ s. (s.now ≡ t) × IsUtf8 t) (λ e. (IsUtf8 t → ⊥) × Q e) → s.now ≡ t
+  text_read (Ok x) s is told = let same : x ≡ s = cc in sym (ap (λ y. y.now) same) ∙ told.0
+  text_read (Err e) s is told = cc
 
 unpadded-decimal : (n : ℕ) → n < 2 ^ 32 → unpadded (decimal n) ≡ true
 unpadded-decimal n h =

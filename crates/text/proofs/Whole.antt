@@ -1,8 +1,9 @@
 -- Fields and lines put together again. Assumes nothing.
-use Rattle.std.proofs.Common.{◌≡◌, ℕ, Bool, true, false, cond, eqb, List, [], ◌∷◌, ◌++◌, sym, refl, ap, ◌∙◌, inl, inr, ⊎_elim}
-use Rattle.std.specs.List.{flat_map, AllByRecursion}
+use Rattle.std.proofs.Common.{◌≡◌, ℕ, Bool, true, false, cond, eqb, List, [], ◌∷◌, ◌++◌, map, sym, refl, ap, ◌∙◌, ⊎_elim}
+use Rattle.std.specs.List.{flat_map}
 use Rattle.std.proofs.lemmas.Bool.{cases_Bool, cond-true, cond-false, eqb-true, eqb-false}
 use Rattle.text.specs.Pieces.{after, before, ends_line, fields, from_byte, led, lines, onto, split, with_commas, CutsMakeTheText, FieldsMakeTheLine, Lacks, LinesMakeTheText, Without}
+use Rattle.text.specs.Taken.{with_ends, ToldLinesAreTheLines}
 use Rattle.text.proofs.Cutting.{fields_step, lines_step}
 
 cut-whole : (b : ℕ) (t : List ℕ) → before b t ++ from_byte b (after b t) ≡ t
@@ -90,3 +91,10 @@ lines-whole (c ∷ d ∷ ds) =
 
 pub lines_make_the_text : LinesMakeTheText
 lines_make_the_text t = (lines-whole t, split_without 10 [] tt t)
+
+texts_told : (last : Bool) (ls : List (List ℕ)) → map (λ l. l.0) (with_ends last ls) ≡ ls
+texts_told last [] = refl
+texts_told last (l ∷ ls) = ap (λ x. l ∷ x) (texts_told last ls)
+
+pub told_lines_are_the_lines : ToldLinesAreTheLines
+told_lines_are_the_lines t = texts_told (ends_line 10 t) (lines t)

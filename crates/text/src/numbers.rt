@@ -6,11 +6,7 @@ ghost use Rattle.text.specs.Numbers.{number, unpadded, ReadsBack, ReadsOnlyWritt
 fn is_unpadded(text: &[u8]) -> bool
     ensures { result ≡ unpadded text.now }
 {
-    match text {
-        [] => false,
-        [_] => true,
-        [first, ..] => *first != b'0',
-    }
+    !matches!(text, [] | [b'0', _, ..])
 }
 
 // The number that `text` writes, or none where it is anything else than one of 32 bits.
@@ -24,16 +20,11 @@ pub fn read_number(text: &[u8]) -> Option<u32>
     if text[0] == b'+' {
         return None;
     }
-    match std::str::from_utf8(text) {
-        Ok(digits) => digits.parse::<u32>().ok(),
-        Err(_) => None,
-    }
+    std::str::from_utf8(text).ok()?.parse().ok()
 }
 
 // The laws that tie reading to writing.
-pub fn numbers_read_back() -> u8
+pub fn numbers_read_back()
     ensures back { ReadsBack }
     ensures only { ReadsOnlyWritten }
-{
-    0
-}
+{}

@@ -1,4 +1,4 @@
-ghost use Rattle.std.specs.Prelude.{◌≡◌, ◌≤◌, replicate, None};
+ghost use Rattle.std.specs.Prelude.{◌≡◌, ◌-◌, ◌≤◌, replicate, if◌then◌else◌, Some, None};
 ghost use Rattle.books.specs.Enrolments.{percent_of};
 ghost use Rattle.books.specs.Roll.{Others, Told, enrol_outcome, enrolled, is_place, places};
 
@@ -17,36 +17,25 @@ impl Roll {
         }
     }
 
-    // Enrols a place, in place of what it was enrolled with.
+    // Enrols a place, in place of what it was enrolled with. Four numbers, as the log has them: an enrolment is made here.
+    #[tactic(auto, using(crate::proofs::Rolls::enrolling))]
     pub fn enrol(&mut self, place: Place, percent: u8, first: u16, last: u16) -> Result<(), Refusal>
         ensures outcome { (result, places self.new) ≡ enrol_outcome place (record { percent = percent; first = first; last = last }) (places self.old) }
         ensures told { Told place (record { percent = percent; first = first; last = last }) (places self.old) (places self.new) result }
         ensures others { Others place (places self.old) (places self.new) }
     {
-        self.take(
-            place,
-            Enrolment {
-                percent,
-                first,
-                last,
-            },
-        )
-    }
-
-    // The same for an enrolment as one value, by the rule alone.
-    fn take(&mut self, place: Place, it: Enrolment) -> Result<(), Refusal>
-        ensures { (result, places self.new) ≡ enrol_outcome place it (places self.old) }
-    {
-        if !is_place(place) {
-            return Err(Refusal::NoPlace);
-        }
-        if !is_day(it.first) || !is_day(it.last) || it.last < it.first {
+        let index = index_of(place).ok_or(Refusal::NoPlace)?;
+        if !is_day(first) || !is_day(last) || last < first {
             return Err(Refusal::BadDay);
         }
-        if it.percent > 100 {
+        if percent > 100 {
             return Err(Refusal::BadPercent);
         }
-        self.table[usize::from(place) - 1] = Some(it);
+        self.table[index] = Some(Enrolment {
+            percent,
+            first,
+            last,
+        });
         Ok(())
     }
 
@@ -55,16 +44,14 @@ impl Roll {
         ensures found { result ≡ enrolled (places self.now) place }
         ensures part { percent_of result ≤ 100 }
     {
-        if !is_place(place) {
-            return None;
-        }
-        self.table[usize::from(place) - 1]
+        self.table[index_of(place)?]
     }
 }
 
-// Is it one of the places?
-fn is_place(place: Place) -> bool
-    ensures { result ≡ is_place place }
+// Where a place stands in the table.
+fn index_of(place: Place) -> Option<usize>
+    ensures { result ≡ (if is_place place then Some (place - 1) else None) }
 {
-    1 <= place && usize::from(place) <= PLACES
+    let index = usize::from(place).checked_sub(1)?;
+    (index < PLACES).then_some(index)
 }

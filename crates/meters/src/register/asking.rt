@@ -13,11 +13,7 @@ impl Register {
     {
         let (place, hours) = self.find(day)?;
         let read = self.days[place];
-        if read.has_all(hours) {
-            Some(read.total)
-        } else {
-            None
-        }
+        read.has_all(hours).then_some(read.total)
     }
 }
 

@@ -5,7 +5,7 @@ ghost use Rattle.meters.specs.Marks.{unread_day};
 
 use super::day::Day;
 
-// A meter that is read hour by hour for one year: a table of its days, from the year's first day on.
+// A meter that is read hour by hour for one year: a table of its days, from the year's first day on, of fixed size.
 #[derive(Clone, Copy)]
 pub struct Register {
     pub(crate) year: u16,

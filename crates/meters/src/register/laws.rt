@@ -1,8 +1,6 @@
 ghost use Rattle.meters.specs.Laws.{RegisterLaws};
 
-// States what holds of every register; it does nothing.
-pub fn register_laws() -> u8
+// What holds of every register.
+pub fn register_laws()
     ensures { RegisterLaws }
-{
-    0
-}
+{}

@@ -11,6 +11,9 @@ use amounts::Refusal;
 use calendar::days::{first_day_of_year, is_year, year_of};
 use calendar::hours::hours_of;
 
+// A day with no hour read.
+const UNREAD_DAY: Day = Day { total: 0, marks: 0 };
+
 // The most kWh that one hour can have.
 const MOST_KWH: u32 = 10_000;
 
@@ -44,33 +47,24 @@ impl Day {
 
 impl Register {
     // The register of a year, with no hour read.
+    #[tactic(auto, unfolding(crate::specs::Register::unread))]
     pub fn new(year: u16) -> Result<Register, Refusal>
         ensures { opened result ≡ first_refused (register_table year) (unread year) }
     {
         if !is_year(year) {
             return Err(Refusal::YearNotServed);
         }
-        Ok(Register::blank(year))
-    }
-
-    // A table of unread days, for one of the calendar's years.
-    fn blank(year: u16) -> Register
-        requires { (2019 ≤ year) × (year ≤ 2082) }
-        ensures { readings result ≡ unread year }
-    {
-        Register {
+        Ok(Register {
             year,
-            days: [Day { total: 0, marks: 0 }; 366],
-        }
+            days: [UNREAD_DAY; 366],
+        })
     }
 
     // Reads an hour of a day, counted from 0: once, and within the day's hours.
     pub fn read_hour(&mut self, day: u16, hour: u8, kwh: u32) -> Result<(), Refusal>
         ensures { (result, readings self.new) ≡ read_hour day hour kwh (readings self.old) }
     {
-        let Some((place, hours)) = self.find(day) else {
-            return Err(Refusal::BadDay);
-        };
+        let (place, hours) = self.find(day).ok_or(Refusal::BadDay)?;
         if hours <= hour || self.days[place].has(hour) || kwh > MOST_KWH {
             return Err(Refusal::BadHour);
         }
@@ -87,7 +81,8 @@ impl Register {
             return None;
         }
         let first = first_day_of_year(self.year)?;
-        Some(((day - first) as usize, hours_of(day)?))
+        let place = day - first;
+        Some((usize::from(place), hours_of(day)?))
     }
 
     // Keeps the reading of an hour that is not read yet.

@@ -1,10 +1,13 @@
 use Rattle.std.proofs.Common.{◌≡◌, ◌+◌, ◌≤◌, length}
-use Rattle.notice.specs.Notices.{figures, nothing, pieces, read_lines}
+use Rattle.std.specs.Iterator.Adapters.{enumerate_count, enumerate_source}
+use Rattle.text.specs.Taken.{lines_left}
+use Rattle.sources.specs.Board.{nothing}
+use Rattle.notice.specs.Notices.{figures, pieces, read_lines}
+use Rattle.notice.proofs.Cutting.{read_told}
 use Rattle.notice.proofs.lines.read_lines.Given as goal
 
-abbrev pub invariant-loop-next : goal.invariant-loop-next
-invariant-loop-next l =
-    (read_lines (l.line + 1) (figures l.tables) (pieces l.rest) ≡ read_lines 1 nothing (pieces l.text)) × (l.line + length l.rest ≤ 65536)
-
-abbrev pub decreases-loop-next : goal.decreases-loop-next
-decreases-loop-next l = length l.rest
+abbrev pub invariant-loop-before : goal.invariant-loop-before
+invariant-loop-before l =
+    let left = lines_left (enumerate_source l.before-iterator) in
+    let count = enumerate_count l.before-iterator in
+    record { reads : read_told (count + 1) (figures l.tables) left ≡ read_lines 1 nothing (pieces l.text); fits : count + length left ≤ 65536 }

@@ -1,11 +1,13 @@
-use Rattle.std.proofs.Common.{sym, rules}
-use Rattle.parts.proofs.Growing.{silent-at, silent_more}
+use Rattle.std.proofs.Common.{◌≡◌, ◌+◌, true, false, refl, arith, rules, tests}
+use Rattle.std.proofs.lemmas.Iterator.{YieldsList-from_range, cases_from_any}
+use Rattle.parts.specs.Cutting.{silent}
+use Rattle.parts.proofs.Growing.{any_silent}
 use Rattle.parts.proofs.cutting.is_silent_within.Goals as goal
 
-pub returns-then-is_none : goal.returns-then-is_none
-returns-then-is_none g c =
-    sym (silent-at (g.S.Current.quota c.args.source.now) c.args.first c.args.count c.loop-offset.offset c.loop-offset-test.true (search rules))
-
-pub loop-offset-preserved : goal.loop-offset-preserved
-loop-offset-preserved g c =
-    silent_more (g.S.Current.quota c.args.source.now) c.args.first c.loop-offset.offset c.loop-offset.invariant (search rules)
+pub returns : goal.returns
+returns g c =
+    let quota = g.S.Current.quota c.args.source.now in
+    any_silent quota c.args.first c.args.count c.any.result
+    (cases_from_any _ _ _ (λ d. silent (quota d) ≡ true) (λ d. silent (quota d) ≡ false) c.any.ensures.ran
+    (YieldsList-from_range c.args.first (c.args.first + c.args.count) c.args.count refl (omega arith))
+    (λ x q k. search (rules, tests)) (λ x q k. search (rules, tests)))

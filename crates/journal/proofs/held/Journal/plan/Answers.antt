@@ -4,7 +4,7 @@ use Rattle.parts.specs.declared.types.Parts.{Parts}
 use Rattle.rules.specs.Issue.{percents}
 use Rattle.journal.specs.Model.{model}
 use Rattle.journal.specs.Stages.{FitsIn}
-use Rattle.journal.proofs.Rows.{some_part}
+use Rattle.journal.proofs.Supplies.{some_part}
 use Rattle.journal.proofs.Issuing.{first_stage, second_stage, third_stage, all_stages, planned_is, parts-counted}
 use Rattle.journal.proofs.held.Journal.plan.Goals as goal
 

@@ -7,5 +7,5 @@ pub returns : goal.returns
 returns c =
     let rs = c.args.self.now in
     let read = c.read_hour.new.self in
-    ap (λ n. (c.plain_answer-answer.result, by_id (record { list = set rs.list n (Some read) }))) c.from.ensures
-    ∙ read_one rs c.args.id c.args.day c.args.hour c.args.kwh c.in-Some.register read c.plain_answer-answer.result c.read_hour.result c.in-Some.ensures c.read_hour.ensures c.plain_answer-answer.ensures
+    ap (λ n. (c.from-answer.result, by_id (record { list = set rs.list n (Some read) }))) c.from.ensures
+    ∙ read_one rs c.args.id c.args.day c.args.hour c.args.kwh c.in-Some.register read c.from-answer.result c.read_hour.result c.in-Some.ensures c.read_hour.ensures c.from-answer.ensures

@@ -1,6 +1,0 @@
-// What is written for each command of a log.
-#![tactic(auto)]
-
-mod answering;
-
-pub use answering::{respond, respond_to_notice};

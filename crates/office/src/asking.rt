@@ -1,0 +1,15 @@
+ghost use Rattle.std.specs.Prelude.{◌≡◌};
+ghost use Rattle.journal.specs.Model.{model};
+ghost use Rattle.office.specs.Desk.{desk};
+
+use super::office::Office;
+use journal::Journal;
+
+impl<'a> Office<'a> {
+    // Its journal, to be asked.
+    pub fn journal(&self) -> &Journal<'a>
+        ensures { model result.now ≡ (desk self.now).books }
+    {
+        &self.journal
+    }
+}

@@ -1,0 +1,24 @@
+ghost use Rattle.std.specs.Prelude.{◌≡◌};
+ghost use Rattle.journal.specs.Model.{model};
+ghost use Rattle.office.specs.Desk.{desk, new_desk};
+
+use super::office::Office;
+use super::registers::Registers;
+use books::Roll;
+use journal::Journal;
+use sources::Board;
+
+impl<'a> Office<'a> {
+    // An office that begins with these books: nobody is enrolled, and nothing was told or read.
+    pub fn new(journal: Journal<'a>) -> Office<'a>
+        ensures { desk result ≡ new_desk (model journal.entry) }
+    {
+        Office {
+            journal,
+            roll: Roll::new(),
+            board: Board::new(),
+            registers: Registers::none(),
+            notice: None,
+        }
+    }
+}

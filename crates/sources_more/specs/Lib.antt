@@ -1,4 +1,0 @@
-pub mod Board
-pub mod Laws
-pub mod Figures
-pub mod Lists

@@ -17,8 +17,12 @@ impl Day {
     fn is_last_sunday(self) -> bool
         ensures { result ≡ last_sunday self.number }
     {
+        // the cheap test first: six days of seven need no month
+        if !is_sunday(self.number) {
+            return false;
+        }
         let month = self.month();
-        is_sunday(self.number) && month.first_day().number + month.length() <= self.number + 7
+        month.first_day().number + month.length() <= self.number + 7
     }
 
     // Its hours.
@@ -26,9 +30,12 @@ impl Day {
     fn hours(self) -> u8
         ensures { result ≡ hours_of self.number }
     {
+        if !self.is_last_sunday() {
+            return 24;
+        }
         match self.month().in_year() {
-            3 if self.is_last_sunday() => 23,
-            10 if self.is_last_sunday() => 25,
+            3 => 23,
+            10 => 25,
             _ => 24,
         }
     }

@@ -6,5 +6,10 @@ use replay::replay;
 use std::io;
 
 fn main(rt: HostRuntime) -> io::Result<()> {
-    replay(&rt, Vocabulary::Whole)
+    replay(
+        rt.alloc(),
+        &mut rt.stdin(),
+        &mut rt.stdout(),
+        Vocabulary::Whole,
+    )
 }

@@ -7,11 +7,15 @@ ghost use Rattle.desk.specs.Desk.{records_text, response};
 use super::rows::push_rows;
 use answers::push_answer;
 use commands::Command;
-use office::Office;
+use office::OfficeOf;
 use std::alloc::{AllocError, Global};
 
 // Appends the records that follow the answer to some commands.
-fn push_records(out: &mut Vec<u8>, office: &Office<'_>, command: Command) -> Result<(), AllocError>
+fn push_records<const IDS: usize>(
+    out: &mut Vec<u8>,
+    office: &OfficeOf<'_, IDS>,
+    command: Command,
+) -> Result<(), AllocError>
     ensures { Writes result out.old.items out.new.items (records_text command (desk office.now).books) }
 {
     match command {
@@ -23,9 +27,9 @@ fn push_records(out: &mut Vec<u8>, office: &Office<'_>, command: Command) -> Res
 
 // Reads a notice, which is the source from here on, and appends the answer to its line. Without the memory for both
 // all but the source stays.
-pub fn respond_to_notice(
+pub fn respond_to_notice<const IDS: usize>(
     out: &mut Vec<u8>,
-    office: &mut Office<'_>,
+    office: &mut OfficeOf<'_, IDS>,
     heap: Global,
     line: u64,
     text: &[u8],
@@ -39,9 +43,9 @@ pub fn respond_to_notice(
 }
 
 // Carries a command out and appends its answer.
-pub fn respond(
+pub fn respond<const IDS: usize>(
     out: &mut Vec<u8>,
-    office: &mut Office<'_>,
+    office: &mut OfficeOf<'_, IDS>,
     line: u64,
     command: Command,
 ) -> Result<(), AllocError>

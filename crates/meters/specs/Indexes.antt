@@ -1,9 +1,12 @@
 -- What two indexes mean keeps the laws of meters.
-use Rattle.std.specs.Prelude.{◌≡◌, ℕ, ◌+◌, ◌-◌, ◌^◌, ◌<◌, ◌≤◌, Some, None, Option}
-use Rattle.std.proofs.Common.{sym, ap, ◌∙◌, ⊎_elim, arith}
+use Rattle.std.specs.Prelude.{◌≡◌, ℕ, ◌+◌, ◌-◌, ◌^◌, ◌<◌, ◌≤◌, Bool, true, false, cond, [], ◌∷◌, IfOk, Some, None, Ok, Err, Option, Result}
+use Rattle.std.proofs.Common.{sym, ap, subst, ◌∙◌, ⊎_elim, arith}
 use Rattle.std.proofs.lemmas.Bool.{cases_lt}
 use Rattle.std.proofs.lemmas.Bool.Decides.{nat_tests}
-use Rattle.meters.specs.Index.{index_kwh, share}
+use Rattle.amounts.specs.declared.refusal.Refusal.{Refusal}
+use Rattle.amounts.specs.Tables.{Table, first_refused}
+use Rattle.meters.specs.declared.held.IndexMeter.{IndexMeter}
+use Rattle.meters.specs.Index.{index_kwh, index_means, share, Known, known}
 use Rattle.meters.specs.Spans.{plus, told, Additive, day_count}
 use Rattle.meters.specs.Cuts.{plus_none}
 use Rattle.meters.specs.Shares.{share_rises, share_most, share_all, share_none}
@@ -79,3 +82,20 @@ module _ (first last total : ℕ) where
       let n = day_count first last in
       let end : last ≡ first + n - 1 = omega arith in
       ap (means first) end ∙ index_first n (omega arith) (omega arith) ∙ ap Some (share_all total n (omega arith))
+
+-- a condition that refused nothing did not hold
+passed : {X : Type 0} (holds : Bool) (why : Refusal) (r : Result X Refusal) (y : X) → cond holds (Err why) r ≡ Ok y → r ≡ Ok y
+passed true why r y e = let z : ◌≡◌ {A = ℕ} 0 1 = cc in absurd (omega arith)
+passed false why r y e = e
+
+-- what no condition refuses is the value
+unrefused : {X : Type 0} (t : Table) (x y : X) → first_refused t x ≡ Ok y → x ≡ y
+unrefused [] x y e = cc
+unrefused (c ∷ cs) x y e = unrefused cs x y (passed c.0 c.1 (first_refused cs x) y e)
+
+-- where a table makes a meter, all the meter's days have the total
+pub made_whole : (r : Result IndexMeter Refusal) (t : Table) (k : Known) → known r ≡ first_refused t k → IfOk r (λ m. index_means m k.first k.last ≡ Some k.total)
+made_whole (Ok m) t k e =
+    let P : Known → Type 0 = λ k. index_means m k.first k.last ≡ Some k.total in
+    subst P (sym (unrefused t k _ (sym e))) (index_whole m.first m.last m.total m.forward)
+made_whole (Err why) t k e = tt

@@ -23,7 +23,7 @@ use Rattle.commands.specs.declared.command.Command.TheVariants.{Setup, Enrol, Qu
 use Rattle.commands.specs.declared.command.IndexReading.{IndexReading}
 use Rattle.commands.specs.declared.command.MeterField.{MeterField}
 use Rattle.commands.specs.declared.command.MeterField.TheVariants.{Index, Register as ByRegister}
-use Rattle.office.specs.declared.office.Office.{Office}
+use Rattle.office.specs.declared.office.OfficeOf.{OfficeOf}
 use Rattle.office.specs.Registers.{by_id, no_registers, open_register, read_register, register_of}
 
 -- the journal's books, what each place is enrolled with, what the board was told, what the registers have read,
@@ -36,7 +36,7 @@ pub record Desk : Type 0 where
   pub notice : Option (Result Figures Place)
 
 -- what an office holds
-abbrev pub desk : Office → Desk
+abbrev pub desk : {ids : ℕ} → OfficeOf ids → Desk
 desk office = record {
   books = model office.journal;
   roll = places office.roll;
@@ -45,9 +45,9 @@ desk office = record {
   notice = option_map says office.notice;
 }
 
--- nobody is enrolled, nothing was told, there are no registers
-abbrev pub new_desk : Books → Desk
-new_desk books = record { books = books; roll = replicate 250 None; board = nothing; registers = no_registers; notice = None }
+-- nobody is enrolled, nothing was told, and none of so many IDs has a register
+abbrev pub new_desk : ℕ → Books → Desk
+new_desk ids books = record { books = books; roll = replicate 250 None; board = nothing; registers = no_registers ids; notice = None }
 
 -- another source
 abbrev pub by_source : Option (Result Figures Place) → Desk → Desk

@@ -4,14 +4,14 @@ ghost use Rattle.std.specs.Option.{option_map};
 ghost use Rattle.meters.specs.Register.{readings};
 ghost use Rattle.office.specs.Registers.{by_id, no_registers, open_register, read_register, register_of};
 
-use super::registers::{IDS, Registers};
+use super::registers::Registers;
 use answers::Answer;
 use meters::Register;
 
-impl Registers {
+impl<const IDS: usize> Registers<IDS> {
     // No register.
-    pub(crate) fn none() -> Registers
-        ensures { by_id result ≡ no_registers }
+    pub(crate) fn none() -> Registers<IDS>
+        ensures { by_id result ≡ no_registers IDS }
     {
         Registers { list: [None; IDS] }
     }
@@ -20,7 +20,7 @@ impl Registers {
     pub(crate) fn begin(&mut self, id: u8, year: u16) -> Answer
         ensures { (result, by_id self.new) ≡ open_register id year (by_id self.old) }
     {
-        if usize::from(id) >= IDS {
+        if usize::from(id) >= self.list.len() {
             return Answer::Bad;
         }
         match Register::new(year) {

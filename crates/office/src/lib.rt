@@ -8,5 +8,8 @@ mod obeying;
 mod office;
 mod registers;
 
-pub use office::Office;
+pub use office::{Office, OfficeOf};
 pub use registers::Registers;
+
+#[cfg(test)]
+mod tests;

@@ -1,7 +1,7 @@
 ghost use Rattle.std.specs.Prelude.{◌≡◌, IfOk, OnErr, OnOk};
 ghost use Rattle.office.specs.Desk.{after_notice, by_source, desk, issue_by, issue_with, notice_answer, obeyed};
 
-use super::office::Office;
+use super::office::OfficeOf;
 use answers::Answer;
 use commands::{Command, MeterField};
 use meters::IndexMeter;
@@ -10,7 +10,7 @@ use notice::Notice;
 use rules::Supply;
 use std::alloc::{AllocError, Global};
 
-impl<'a> Office<'a> {
+impl<'a, const IDS: usize> OfficeOf<'a, IDS> {
     // Bills a supply by a meter, and by the source that is in force: two arms, since an issue is generic over its source.
     fn issue_by<M: Meter>(&mut self, meter: &M, supply: Supply) -> Answer
         ensures { (result, desk self.new) ≡ issue_by (M.means meter.now) supply (desk self.old) }

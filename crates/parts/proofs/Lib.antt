@@ -4,3 +4,4 @@ pub mod Parting
 pub mod Monthly
 pub mod Adding
 pub mod Telling
+pub mod Counting

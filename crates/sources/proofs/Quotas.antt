@@ -30,7 +30,7 @@ abbrev later-told : ℕ → Option QuotaFrom → QuotaFrom → Option QuotaFrom
 later-told d o q = cond (leb q.from d) (Some q) o
 
 -- no day is later than the last
-up_to_last : (qs : List QuotaFrom) → DaysRise qs → (j : ℕ) → j < length qs → day_at qs j ≤ last_day qs
+pub up_to_last : (qs : List QuotaFrom) → DaysRise qs → (j : ℕ) → j < length qs → day_at qs j ≤ last_day qs
 up_to_last qs rising j h =
     ⊎_elim
     (λ (below : j < length qs - 1). omega (arith, rising j (length qs - 1) no_quota below (omega arith)))
@@ -173,7 +173,7 @@ from_zero [] = tt
 from_zero (q ∷ qs) = (le-leb 0 q.from (omega arith), from_zero qs)
 
 -- the quotas from the one on that holds on a day are those that none replaces by then
-kept-since : (qs : List QuotaFrom) (d : ℕ) → DaysRise qs → from_on (λ q. q.from) (since (holding qs d)) qs ≡ unreplaced d qs
+pub kept-since : (qs : List QuotaFrom) (d : ℕ) → DaysRise qs → from_on (λ q. q.from) (since (holding qs d)) qs ≡ unreplaced d qs
 kept-since [] d rising = refl
 kept-since (q ∷ qs) d rising =
     let later = all_pairs_head Earlier q qs rising in

@@ -17,12 +17,8 @@ impl Day {
     fn is_last_sunday(self) -> bool
         ensures { result ≡ last_sunday self.number }
     {
-        // the cheap test first: six days of seven need no month
-        if !is_sunday(self.number) {
-            return false;
-        }
         let month = self.month();
-        month.first_day().number + month.length() <= self.number + 7
+        is_sunday(self.number) && month.first_day().number + month.length() <= self.number + 7
     }
 
     // Its hours.
@@ -30,12 +26,13 @@ impl Day {
     fn hours(self) -> u8
         ensures { result ≡ hours_of self.number }
     {
-        if !self.is_last_sunday() {
+        // the cheap test first: six days of seven need no month
+        if !is_sunday(self.number) {
             return 24;
         }
         match self.month().in_year() {
-            3 => 23,
-            10 => 25,
+            3 if self.is_last_sunday() => 23,
+            10 if self.is_last_sunday() => 25,
             _ => 24,
         }
     }

@@ -3,21 +3,38 @@ use Rattle.std.proofs.Common.{◌≡◌, ℕ, zero, suc, ◌+◌, ◌-◌, ◌<�
 use Rattle.std.proofs.lemmas.List.Sums.{fold_more, sum_by-cons}
 use Rattle.std.specs.Bool.{then_some}
 use Rattle.std.proofs.lemmas.List.{get_or_read}
-use Rattle.std.proofs.lemmas.List.Sorted.{IsPartitionedBy-leb}
-use Rattle.std.specs.List.Sorted.{IsPartitionedBy, IsPartitionPoint}
 use Rattle.std.proofs.lemmas.Bool.{cond-true, cond-false, leb-true, leb-false, le-leb, lt-leb, eq-eqb, ne_eqb, cases_lt, cases_order}
 use Rattle.lookup.specs.Order.{Rising, Parted, Greatest, how_many_up_to, last_up_to, first_with}
 
-module _ {X : Type 0} (key : X → ℕ) (limit : ℕ) where
-  -- where the keys rise, no record up to the limit comes after a greater one
-  pub rising_parts : (xs : List X) → Rising key xs → IsPartitionedBy (λ x. leb (key x) limit) xs
-  rising_parts xs rise =
-      IsPartitionedBy-leb key xs limit (λ i j d le within.
-      ⊎_elim (λ less. let r = rise i j d less within in omega arith) (λ from. let same : i ≡ j = omega arith in let e = ap (λ (m : ℕ). key (get_or xs m d)) same in omega arith) (cases_lt i j))
+-- the records before `low` have keys up to the limit, and those from `high` on have greater ones
+abbrev pub Halved : {X : Type 0} → (X → ℕ) → ℕ → List X → ℕ → ℕ → Type 0
+Halved {X} key limit xs low high = ((k : ℕ) (d : X) → k < low → key (get_or xs k d) ≤ limit) × ((k : ℕ) (d : X) → high ≤ k → k < length xs → limit < key (get_or xs k d))
 
-  -- the place that parts them, as the library says it
-  pub parted_at : (xs : List X) (n : ℕ) → IsPartitionPoint (λ x. leb (key x) limit ≡ true) (λ x. leb (key x) limit ≡ false) xs n → Parted key limit xs n
-  parted_at xs n p = ((λ k d less. leb-true (key (get_or xs k d)) limit (p.0 k d (omega arith) less)), λ k d from within. leb-false (key (get_or xs k d)) limit (p.1 k d from within))
+module _ {X : Type 0} (key : X → ℕ) (limit : ℕ) where
+  -- a record in the middle moves one of the two ends
+  pub low_raised : (xs : List X) (low high i : ℕ) (x : X) (test : Bool) → Rising key xs → i < length xs → x ≡ get_or xs i x → test ≡ leb (key x) limit → test ≡ true → Halved key limit xs low high → Halved key limit xs (i + 1) high
+  low_raised xs low high i x test rise in' is tests taken h =
+      let small : key x ≤ limit = leb-true (key x) limit (sym tests ∙ taken) in
+      let at : (d : X) → key (get_or xs i d) ≤ limit = λ d. subst (λ (y : X). key y ≤ limit) (get_or_read xs i x in' is d) small in (
+        (λ k d less.
+            ⊎_elim
+            (λ before. let a = at d in let r = rise k i d before in' in omega arith)
+            (λ from. let same : i ≡ k = omega arith in subst (λ (m : ℕ). key (get_or xs m d) ≤ limit) same (at d))
+            (cases_lt k i)),
+        h.1,
+      )
+
+  pub high_lowered : (xs : List X) (low high i : ℕ) (x : X) (test : Bool) → Rising key xs → i < length xs → x ≡ get_or xs i x → test ≡ leb (key x) limit → test ≡ false → Halved key limit xs low high → Halved key limit xs low i
+  high_lowered xs low high i x test rise in' is tests left h =
+      let great : limit < key x = leb-false (key x) limit (sym tests ∙ left) in
+      let at : (d : X) → limit < key (get_or xs i d) = λ d. subst (λ (y : X). limit < key y) (get_or_read xs i x in' is d) great in (
+        h.0,
+        λ k d from within.
+            ⊎_elim
+            (λ after. let a = at d in let r = rise i k d after within in omega arith)
+            (λ to. let same : i ≡ k = omega arith in subst (λ (m : ℕ). limit < key (get_or xs m d)) same (at d))
+            (cases_lt i k),
+      )
 
   -- the later of two finds
   abbrev later : Option X → X → Option X

@@ -6,17 +6,39 @@ use super::keyed::Keyed;
 // That keys rise is known where the records are kept, in two kinds of storage: a type over the slice would be made anew
 // for each search.
 
+// Is the record's key up to the limit?
+fn is_up_to<T: Keyed + Copy>(item: T, limit: u64) -> bool
+    ensures { result ≡ nat_le (T.Keyed.order item) limit }
+{
+    item.key() <= limit
+}
+
+// The place halfway between two; their sum may be too large to take.
+fn halfway(low: usize, high: usize) -> usize
+    requires { low ≤ high }
+    ensures { result ≡ (low + high) / 2 }
+{
+    low + (high - low) / 2
+}
+
 // How many records have a key up to the limit, where the keys rise.
+// Halved by hand: a call of the library's `partition_point` leaves no middle here that an edit could turn.
 pub fn count_up_to<T: Keyed + Copy>(items: &[T], limit: u64) -> usize
     ensures within { result ≤ length items.now }
     ensures counted { Rising T.Keyed.order items.now → result ≡ how_many_up_to T.Keyed.order limit items.now }
     ensures parted { Rising T.Keyed.order items.now → Parted T.Keyed.order limit items.now result }
 {
-    items.partition_point(
-        |item| -> bool
-            ensures { result ≡ nat_le (T.Keyed.order item.now) limit }
-        { item.key() <= limit },
-    )
+    let mut low = 0;
+    let mut high = items.len();
+    while low < high {
+        let middle = halfway(low, high);
+        if is_up_to(items[middle], limit) {
+            low = middle + 1;
+        } else {
+            high = middle;
+        }
+    }
+    low
 }
 
 // The last of the first `count` records.

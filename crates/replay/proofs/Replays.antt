@@ -33,6 +33,20 @@ owes_written (Some xs) None new out rest all h w = absurd h
 owes_written (Some xs) (Some ys) None out rest all h w = absurd w
 owes_written (Some xs) (Some ys) (Some zs) out rest all h w = ap (λ (u : List ℕ). u ++ rest) w ∙ append_assoc ys out rest ∙ h
 
+-- what has gathered is written, and nothing is left of it
+pub owes_flushed : (was now : Option (List ℕ)) (left out : List ℕ) → left ≡ [] → Appends was now out → Owes was now left out
+owes_flushed None now left out e w = tt
+owes_flushed (Some xs) None left out e w = absurd w
+owes_flushed (Some xs) (Some ys) left out e w = ap (λ (l : List ℕ). ys ++ l) e ∙ append-nil ys ∙ w
+
+-- a part of what has gathered is written
+pub owes_less : (was mid now : Option (List ℕ)) (left out rest all : List ℕ) → Owes was mid (out ++ rest) all → Owes mid now left out → Owes was now (left ++ rest) all
+owes_less None mid now left out rest all h k = tt
+owes_less (Some xs) None now left out rest all h k = absurd h
+owes_less (Some xs) (Some ys) None left out rest all h k = k
+owes_less (Some xs) (Some ys) (Some zs) left out rest all h k =
+    sym (append_assoc zs left rest) ∙ ap (λ (u : List ℕ). u ++ rest) k ∙ append_assoc ys out rest ∙ h
+
 -- all of it is written
 pub owes_none : (was now : Option (List ℕ)) (all : List ℕ) → Owes was now [] all → Appends was now all
 owes_none None now all h = tt

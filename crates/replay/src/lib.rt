@@ -33,6 +33,18 @@ fn flush<W: Write>(to: &mut W, out: &mut Vec<u8>) -> io::Result<()>
     Ok(())
 }
 
+// Writes the answers that have gathered, where they are more than a block. Without an error none is lost, or written
+// twice.
+#[tactic(auto, using(crate::proofs::Replays::owes_all, crate::proofs::Replays::owes_flushed))]
+fn flush_block<W: Write>(to: &mut W, out: &mut Vec<u8>) -> io::Result<()>
+    ensures { OnOk result (Owes (W.contents to.old) (W.contents to.new) out.new.items out.old.items) }
+{
+    if out.len() > BLOCK {
+        flush(to, out)?;
+    }
+    Ok(())
+}
+
 // Answers the command in the line that was taken last. A setup is handed on, to whoever holds the storage.
 fn answer_command<const IDS: usize>(
     heap: Global,
@@ -101,9 +113,7 @@ fn answer_lines<W: Write, const IDS: usize>(
             flush(to, out)?;
             return Ok(Some(next));
         }
-        if out.len() > BLOCK {
-            flush(to, out)?;
-        }
+        flush_block(to, out)?;
     }
     flush(to, out)?;
     Ok(None)

@@ -34,10 +34,11 @@ fn flush<W: Write>(to: &mut W, out: &mut Vec<u8>) -> io::Result<()>
 }
 
 // Writes the answers that have gathered, where they are more than a block. Without an error none is lost, or written
-// twice.
+// twice, and at most a block is left.
 #[tactic(auto, using(crate::proofs::Replays::owes_all, crate::proofs::Replays::owes_flushed))]
 fn flush_block<W: Write>(to: &mut W, out: &mut Vec<u8>) -> io::Result<()>
-    ensures { OnOk result (Owes (W.contents to.old) (W.contents to.new) out.new.items out.old.items) }
+    ensures owed { OnOk result (Owes (W.contents to.old) (W.contents to.new) out.new.items out.old.items) }
+    ensures few { OnOk result (length out.new.items ≤ 65536) }
 {
     if out.len() > BLOCK {
         flush(to, out)?;

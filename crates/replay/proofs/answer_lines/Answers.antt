@@ -10,7 +10,7 @@ loop-entry-preserved g c =
     record {
       owed = owes_less _ _ _ _ (vec_items c.answer_entry.new.out) _ _
           (entry_passed g.row.IDS c.loop-entry.log c.next_entry.new.self c.answer_entry.new.log (desk c.loop-entry.office) (desk c.answer_entry.new.office) c.in-Some.entry c.in_ok-next.field-0 _ _ (vec_items c.loop-entry.out) (vec_items c.answer_entry.new.out) _ c.in_default-2.is c.in-Some.ensures.value c.in-Some.ensures.rest c.in-Some.ensures.line c.in-Some.ensures.same c.in_ok-next.ensures.same c.in_ok-next.ensures.told c.loop-entry.invariant.owed)
-          c.in_ok-flush_block.ensures;
+          c.in_ok-flush_block.ensures.owed;
       same = c.in_ok-next.ensures.same ∙ c.in-Some.ensures.same ∙ c.loop-entry.invariant.same;
       no_more = omega (arith, c.in-Some.ensures.shorter);
     }

@@ -1,4 +1,4 @@
-ghost use Rattle.std.specs.Prelude.{◌≡◌, OnOk};
+ghost use Rattle.std.specs.Prelude.{◌≡◌, length, OnOk};
 ghost use Rattle.answers.specs.Answers.{answer_text};
 ghost use Rattle.answers.specs.Rows.{Writes};
 ghost use Rattle.office.specs.Desk.{after_notice, by_source, desk, notice_answer, obeyed};
@@ -43,6 +43,7 @@ pub fn respond_to_notice<const IDS: usize>(
 }
 
 // Carries a command out and appends its answer.
+#[tactic(auto, using(answers::proofs::Appending::written_on))]
 pub fn respond<const IDS: usize>(
     out: &mut Vec<u8>,
     office: &mut OfficeOf<'_, IDS>,
@@ -51,6 +52,7 @@ pub fn respond<const IDS: usize>(
 ) -> Result<(), AllocError>
     ensures text { Writes result out.old.items out.new.items (response line command (obeyed command (desk office.old))) }
     ensures after { desk office.new ≡ (obeyed command (desk office.old)).1 }
+    ensures ids { length (desk office.old).registers ≡ IDS }
 {
     let answer = office.obey(command);
     push_answer(out, line, answer)?;

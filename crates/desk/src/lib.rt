@@ -5,3 +5,6 @@ mod answering;
 mod rows;
 
 pub use answering::{respond, respond_to_notice};
+
+#[cfg(test)]
+mod tests;

@@ -1,4 +1,4 @@
-ghost use Rattle.std.specs.Prelude.{◌≡◌, IfOk, OnErr, OnOk};
+ghost use Rattle.std.specs.Prelude.{◌≡◌, length, IfOk, OnErr, OnOk};
 ghost use Rattle.office.specs.Desk.{after_notice, by_source, desk, issue_by, issue_with, notice_answer, obeyed};
 
 use super::office::OfficeOf;
@@ -41,8 +41,10 @@ impl<'a, const IDS: usize> OfficeOf<'a, IDS> {
 
     // Carries a command out and says what it is answered. A setup is for whoever holds the storage and a notice for
     // whoever holds its text: they change nothing here. Commands are a closed list: a match is plainer than closures.
+    // Whoever lends the office sees no list of registers: `ids` says which IDs may have one.
     pub fn obey(&mut self, command: Command) -> Answer
-        ensures { (result, desk self.new) ≡ obeyed command (desk self.old) }
+        ensures done { (result, desk self.new) ≡ obeyed command (desk self.old) }
+        ensures ids { length (desk self.old).registers ≡ IDS }
     {
         match command {
             Command::Setup(_) => Answer::Taken,

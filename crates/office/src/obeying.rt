@@ -43,7 +43,7 @@ impl<'a, const IDS: usize> OfficeOf<'a, IDS> {
     // whoever holds its text: they change nothing here. Commands are a closed list: a match is plainer than closures.
     // Whoever lends the office sees no list of registers: `ids` says which IDs may have one.
     pub fn obey(&mut self, command: Command) -> Answer
-        ensures done { (result, desk self.new) ≡ obeyed command (desk self.old) }
+        ensures answers { (result, desk self.new) ≡ obeyed command (desk self.old) }
         ensures ids { length (desk self.old).registers ≡ IDS }
     {
         match command {
